@@ -1,0 +1,34 @@
+-- Document 01, "Lengths in parentheses": the value of a literal whose digits are the whole number w and whose power of ten is p.
+use Prim.Native.Nat.{ℕ, suc, _^_}
+use mathlib.Core.Bool.{Bool, true, false, _&&_}
+use lib.Dec.{ltb, leb}
+use lib.IntN.{ℤ, pos, negsuc}
+use lib.Ieee.{Float, neg}
+use Rattle.float.specs.Numbers.{whole, _*ᶠ_, _/ᶠ_}
+use Rattle.float.specs.declared.decimal.Literal.{Literal}
+use Rattle.float.specs.declared.decimal.Literal.the-variants.{Value, OutOfRange}
+
+-- "The value is w × 10^p or w ÷ 10^−p as one double operation on exact powers"
+unfoldable pub value : ℕ → ℤ → Float
+unfolding whole
+value w (pos k) = whole w *ᶠ whole (10 ^ k)
+value w (negsuc k) = whole w /ᶠ whole (10 ^ suc k)
+
+-- "a minus is applied last"
+unfoldable pub signed : Bool → Float → Float
+signed true v = neg v
+signed false v = v
+
+-- "p from −22 to 22"
+unfoldable pub inRange : ℤ → Bool
+inRange (pos k) = leb k 22
+inRange (negsuc k) = leb (suc k) 22
+
+unfoldable pub pick : Bool → Literal → Literal → Literal
+pick true a b = a
+pick false a b = b
+
+-- "The port takes at most 15 digits before the exponent, .. and p from −22 to 22"
+unfoldable pub decimalOf : ℕ → ℤ → Bool → Literal
+unfolding value signed inRange pick
+decimalOf w p minus = pick (ltb w (10 ^ 15) && inRange p) (Value (signed minus (value w p))) OutOfRange
