@@ -1,5 +1,8 @@
 -- The laws that the functions' proofs share, and the theorem on the root.
+mod Table
+mod Powers
 mod Steps
 mod Nearest
+mod Ties
 mod Values
 mod NearestRoot

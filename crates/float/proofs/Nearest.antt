@@ -11,7 +11,7 @@ use native.Mathlib.Omega.{arith}
 use borrow.Author.Tests.{le-leb, lt-leb}
 use lib.Dec.{leb, lit≤}
 use lib.Pow.{pow-pos, pow-mono, pow-add}
-use Rattle.float.specs.Root.{units, halfway, reaches, last, rootBits}
+use Rattle.float.specs.Root.{units, halfway, scaled, reaches, last, rootBits}
 use Rattle.float.specs.Steps.{WholeRoot, Shifted}
 use Rattle.float.proofs.Steps.{units-small, units-normal, small-root}
 
@@ -67,16 +67,16 @@ halfway-mono b c h =
 
 -- ---- `last` finds the last pattern that reaches
 
-module _ (u t : ℕ) (reached : halfway t * halfway t ≤ u * 2 ^ 1076) (unreached : u * 2 ^ 1076 < halfway (t + 1) * halfway (t + 1)) where
+module _ (u t : ℕ) (reached : halfway t * halfway t ≤ scaled u) (unreached : scaled u < halfway (t + 1) * halfway (t + 1)) where
   up-to : (c : ℕ) → c ≤ t → reaches u c ≡ true
   unfolding reaches
-  up-to c h = le-leb (halfway c * halfway c) (u * 2 ^ 1076) (le-trans (mul-le-mul (halfway-mono c t h) (halfway-mono c t h)) reached)
+  up-to c h = le-leb (halfway c * halfway c) (scaled u) (le-trans (mul-le-mul (halfway-mono c t h) (halfway-mono c t h)) reached)
 
   past : (c : ℕ) → t < c → reaches u c ≡ false
   unfolding reaches
   past c h =
       let m : halfway (t + 1) ≤ halfway c = halfway-mono (t + 1) c (omega arith) in
-      lt-leb (halfway c * halfway c) (u * 2 ^ 1076) (lt-of-lt-of-le unreached (mul-le-mul m m))
+      lt-leb (halfway c * halfway c) (scaled u) (lt-of-lt-of-le unreached (mul-le-mul m m))
 
   last-is : (k b : ℕ) → b ≤ t → t < b + 2 ^ k → last u k b ≡ t
   unfolding last
@@ -135,9 +135,9 @@ halves a =
     once : (x : ℕ) → x ≡ (1 + 0) * x
     once x = omega arith
 
--- the radicand, scaled: both sides are the number times 2 ^ 1076
-scaled : (u m a : ℕ) → m * 2 ^ a ≡ u * 2 ^ 1022 → u * 2 ^ 1076 ≡ m * (1 + a % 2) * 2 ^ 54 * (2 ^ (a / 2) * 2 ^ (a / 2))
-scaled u m a h =
+-- the radicand that the digits are found of, times a power of four
+radicand : (u m a : ℕ) → m * 2 ^ a ≡ u * 2 ^ 1022 → scaled u ≡ m * (1 + a % 2) * 2 ^ 54 * (2 ^ (a / 2) * 2 ^ (a / 2))
+radicand u m a h =
     sym (mul-assoc u (2 ^ 1022) (2 ^ 54)) ∙ ap (λ (x : ℕ). x * 2 ^ 54) (sym h ∙ ap (λ (x : ℕ). m * x) (halves a))
     ∙ regroup m (1 + a % 2) (2 ^ (a / 2) * 2 ^ (a / 2)) (2 ^ 54)
   where
@@ -236,7 +236,7 @@ found u m a r same long short small w =
     let t = (r + 1) / 2 + F * 2 ^ 52 in
     let high = digits-high n r w (radicand-high m a short) in
     let low = digits-low n r w (radicand-low m a long) in
-    let e : u * 2 ^ 1076 ≡ n * 2 ^ 54 * (k * k) = scaled u m a same in
+    let e : scaled u ≡ n * 2 ^ 54 * (k * k) = radicand u m a same in
     sym (rootBits-is u t
     (subst (λ (x : ℕ). halfway t * halfway t ≤ x) (sym e)
     (le-trans (mul-le-mul (below r F low high) (below r F low high))

@@ -109,7 +109,7 @@ lt-zero : (e : ℤ) → lt (ofBits binary64 0) (fin false 0 e) ≡ false
 unfolding ofBits lt
 lt-zero e = le-ltb (0 * down e) (0 * up e * 1) (omega arith)
 
-lt-positive : (m : ℕ) (e : ℤ) → lt (ofBits binary64 0) (fin false (suc m) e) ≡ true
+pub lt-positive : (m : ℕ) (e : ℤ) → lt (ofBits binary64 0) (fin false (suc m) e) ≡ true
 unfolding ofBits lt
 lt-positive m e =
     let p : 0 < suc m * up e = mul-pos (zero-lt-suc m) (up-pos e) in

@@ -1,8 +1,9 @@
 -- Document 01, "Lengths in parentheses": the value of a literal whose digits are the whole number w and whose power of ten is p.
 use Prim.Native.Nat.{ℕ, suc, _^_}
 use mathlib.Core.Bool.{Bool, true, false, _&&_}
-use lib.Dec.{ltb, leb}
-use lib.IntN.{ℤ, pos, negsuc}
+use lib.Dec.{ltb}
+use lib.IntN.{ℤ, pos, negsuc, negℤ}
+use lib.Signed.{leZ}
 use lib.Ieee.{Float, neg}
 use Rattle.float.specs.Numbers.{whole, _*ᶠ_, _/ᶠ_}
 use Rattle.float.specs.declared.decimal.Literal.{Literal}
@@ -21,8 +22,7 @@ signed false v = v
 
 -- "p from −22 to 22"
 unfoldable pub inRange : ℤ → Bool
-inRange (pos k) = leb k 22
-inRange (negsuc k) = leb (suc k) 22
+inRange p = leZ (negℤ (pos 22)) p && leZ p (pos 22)
 
 unfoldable pub pick : Bool → Literal → Literal → Literal
 pick true a b = a

@@ -17,7 +17,6 @@ whole n = Ieee.ofInt binary64 (pos n)
 
 infixl 6 _+ᶠ_ _-ᶠ_
 infixl 7 _*ᶠ_ _/ᶠ_
-
 abbrev pub _+ᶠ_ : Float → Float → Float
 x +ᶠ y = Ieee.add binary64 x y
 

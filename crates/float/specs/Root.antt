@@ -5,6 +5,8 @@ use Prim.Native.Nat.{ℕ, zero, suc, _+_, _-_, _*_, _/_, _%_, _^_, _<_}
 use mathlib.Core.Bool.{Bool, true, false, cond}
 use lib.Dec.{ltb, leb}
 use lib.Ieee.{Float, nan, inf, fin, binary64, up, down, ofBits}
+use lib.Ieee.Exact.{HasValue}
+use mathlib.Core.Path.{_≡_}
 
 -- how many units the double with pattern b has: an exponent's field of 0 has no leading digit
 unfoldable pub units : ℕ → ℕ
@@ -15,15 +17,9 @@ unfoldable pub halfway : ℕ → ℕ
 unfolding units
 halfway b = units (b - 1) + units b
 
--- "comparing v with squares of the halfway points as scaled whole numbers": v is u units, and 4 × 2 ^ 1074 × u is four times v in squares of a unit,
--- as the square of twice the halfway point is four times the halfway point's.
+-- four times the square of a halfway point is the square of `halfway`, and u units are u × 2 ^ 1074 squares of a unit: so scaled, both are whole numbers
 abbrev pub scaled : ℕ → ℕ
-scaled u = u * 2 ^ 1076
-
--- "the nearest double": the root of u units lies between the halfway points about the double t, and on neither
-pub record Nearest (u t : ℕ) : Type 0 where
-  pub low : halfway t * halfway t < scaled u
-  pub high : scaled u < halfway (t + 1) * halfway (t + 1)
+scaled u = u * (4 * 2 ^ 1074)
 
 -- the halfway point below the double b is at most the root of u units
 unfoldable pub reaches : ℕ → ℕ → Bool
@@ -50,3 +46,21 @@ rootOf (inf true) = nan
 rootOf (fin s zero e) = fin s zero e
 rootOf (fin true (suc m) e) = nan
 rootOf (fin false (suc m) e) = ofBits binary64 (rootBits (suc m * up e * 2 ^ 1074 / down e))
+
+-- ---- what makes this the nearest double
+
+-- the root of u units lies between the halfway points on the two sides of the double t
+pub record Between (u t : ℕ) : Type 0 where
+  pub low : halfway t * halfway t < scaled u
+  pub high : scaled u < halfway (t + 1) * halfway (t + 1)
+
+-- r is the double nearest to the root of v, no other is, and no halfway point is the root
+pub record NearestRoot (v r : Float) : Type 0 where
+  pub u : ℕ
+  pub of-v : HasValue v false u (2 ^ 1074)
+  pub t : ℕ
+  pub of-r : r ≡ ofBits binary64 t
+  pub r-finite : HasValue r false (units t) (2 ^ 1074)
+  pub nearest : Between u t
+  pub only : (s : ℕ) → s < 2 ^ 63 → Between u s → s ≡ t
+  pub no-tie : (b : ℕ) → halfway b * halfway b ≡ scaled u → ⊥

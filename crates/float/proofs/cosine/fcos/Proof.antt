@@ -1,67 +1,74 @@
+-- `float::cosine::fcos` meets its contract. The invariant: the steps that are left, from the present h, give the whole scheme's answer. Assumes nothing.
+use mathlib.Core.Path.{_≡_, refl, ap, _∙_}
+use Prim.Native.Nat.{ℕ, zero, suc, _-_, _*_, _≤_, _<_}
+use native.Mathlib.Nat.{mul-le-mul, lt-of-le-of-lt, lt-irrefl}
+use native.Mathlib.Numerals.{sub-one}
+use native.Mathlib.Omega.{arith}
+use lib.Dec.{lit<}
+use lib.Ieee.{Float, ofBits, binary64, ofInt}
+use borrow.Author.Needs.{needs}
+use Rattle.float.specs.Numbers.{whole, _-ᶠ_, _*ᶠ_, _/ᶠ_}
+use Rattle.float.specs.Cosine.{step, steps, cosOf}
 use Rattle.float.proofs.cosine.fcos.Statement.{statement}
 use Rattle.float.proofs.cosine.fcos.Tie as tie
-use Rattle.float.proofs.cosine.fcos.Reads as reads
-use Rattle.float.proofs.cosine.fcos.Lts as lts
 
 abbrev Inv-loop : tie.InvT-loop
-Inv-loop a t h₀ k₀ h k = ?
+Inv-loop a t h₀ k₀ h k = (steps t k h ≡ cosOf a) × (k ≤ 13)
 
 abbrev μ-loop : tie.MeasureT-loop
-μ-loop a t h₀ k₀ h k = ?
+μ-loop a t h₀ k₀ h k = k
 
--- src/cosine.rt:12:5
+one : ofBits binary64 0x3ff0_0000_0000_0000 ≡ whole 1
+unfolding ofBits whole
+one = refl
+
+-- a step as the loop takes it, from k to k - 1
+stepped : (t : Float) (k : ℕ) (h : Float) → 0 < k → steps t (k - 1) (ofBits binary64 0x3ff0_0000_0000_0000 -ᶠ t /ᶠ whole ((2 * k - 1) * (2 * k)) *ᶠ h) ≡ steps t k h
+unfolding steps
+stepped t zero h p = absurd (lt-irrefl 0 p)
+stepped t (suc k) h p = rw one (simp sub-one)
+
 loop-holds : tie.Need-loop-holds Inv-loop μ-loop
-loop-holds c = ?
+unfolding cosOf
+loop-holds c = (rw one, omega arith)
 
--- src/cosine.rt:13:18
 mul-p : tie.Need-mul-p Inv-loop μ-loop
-mul-p c = ?
+mul-p c = omega arith
 
--- src/cosine.rt:13:18
 sub-p : tie.Need-sub-p Inv-loop μ-loop
-sub-p c = ?
+sub-p c = omega arith
 
--- src/cosine.rt:13:32
 mul-p-2 : tie.Need-mul-p-2 Inv-loop μ-loop
-mul-p-2 c = ?
+mul-p-2 c = omega arith
 
--- src/cosine.rt:13:17
 mul-p-3 : tie.Need-mul-p-3 Inv-loop μ-loop
-mul-p-3 c = ?
+mul-p-3 c =
+    let k = c .before .loop .k in
+    let a : 2 * k - 1 ≤ 25 = omega arith in
+    let b : 2 * k ≤ 26 = omega arith in
+    record { fits = lt-of-le-of-lt (mul-le-mul a b) (lit< tt) }
 
--- src/cosine.rt:14:24
 int-to-float-h : tie.Need-int-to-float-h Inv-loop μ-loop
-int-to-float-h c = ?
+int-to-float-h c = search needs
 
--- src/cosine.rt:15:13
 sub-k : tie.Need-sub-k Inv-loop μ-loop
-sub-k c = ?
+sub-k c = omega arith
 
--- src/cosine.rt:12:5
 loop-less : tie.Need-loop-less Inv-loop μ-loop
-loop-less c = ?
+loop-less c = omega arith
 
--- src/cosine.rt:12:5
 loop-again : tie.Need-loop-again Inv-loop μ-loop
-loop-again c = ?
+unfolding whole
+loop-again c =
+    let l = c .before .before .loop in
+    (stepped _ (l .k) (l .h) (c .before .loop-test .taken) ∙ l .inv .0, omega arith)
 
--- src/cosine.rt:6:1
 returns : tie.Need-returns Inv-loop μ-loop
-returns c = ?
+unfolding steps
+returns c =
+    let a = c .before .before .args .a in
+    let done : 0 ≡ c .before .loop .k = omega arith in
+    ap (λ (k : ℕ). steps (a *ᶠ a) k (c .before .loop .h)) done ∙ c .before .loop .inv .0
 
 pub fcos-spec : {M : Type 1} → statement M
-fcos-spec =
-    tie.close
-    (tie.spec
-    Inv-loop
-    μ-loop
-    loop-holds
-    mul-p
-    sub-p
-    mul-p-2
-    mul-p-3
-    int-to-float-h
-    sub-k
-    loop-less
-    loop-again
-    returns)
+fcos-spec = tie.close (tie.spec Inv-loop μ-loop loop-holds mul-p sub-p mul-p-2 mul-p-3 int-to-float-h sub-k loop-less loop-again returns)

@@ -1,35 +1,47 @@
+-- `float::decimal::decimal` meets its contract. Assumes nothing.
+use mathlib.Core.Path.{_≡_, sym, _∙_}
+use mathlib.Core.Bool.{true}
+use Prim.Native.Nat.{_^_}
+use native.Mathlib.Omega.{arith}
 use borrow.Author.Needs.{needs}
+use borrow.Author.Tests.{lt-ltb, le-ltb, not-true, not-false}
+use mir.Facts.{toZ-ofZ}
+use Rattle.float.specs.Decimal.{decimalOf, inRange}
 use Rattle.float.proofs.decimal.decimal.Statement.{statement}
 use Rattle.float.proofs.decimal.decimal.Tie as tie
-use Rattle.float.proofs.decimal.decimal.Reads as reads
-use Rattle.float.proofs.decimal.decimal.Lts as lts
-use Rattle.float.proofs.decimal.in_range.Reads as in-range-reads
-use Rattle.float.proofs.decimal.value.Reads as value-reads
 
--- src/decimal.rt:52:9
 returns : tie.Need-returns
-returns c = ?
+unfolding decimalOf
+returns c = simp (le-ltb _ _ (c .if1 .taken))
 
--- src/decimal.rt:54:9
 in-range-requires : tie.Need-in-range-requires
 in-range-requires c κs = search needs
 
--- src/decimal.rt:55:9
+-- what the test of the range found
+found : (c : tie.After-in-range) → c .in-range .result ≡ inRange (c .before .before .args .p)
+found c = rw (toZ-ofZ (c .before .before .fits .p)) at (c .in-range .ensures)
+
+within : (c : tie.Else2) → inRange (c .before .before .before .args .p) ≡ true
+within c = sym (found (c .before)) ∙ not-false _ (c .if2 .left)
+
 returns-2 : tie.Need-returns-2
-returns-2 c = ?
+unfolding decimalOf
+returns-2 c = simp (sym (found (c .before)) ∙ not-true _ (c .if2 .taken), lt-ltb _ _ (c .before .before .if1 .left))
 
--- src/decimal.rt:57:9
 value-requires : tie.Need-value-requires
-value-requires c κs = ?
+value-requires c κs = (omega arith, rw (toZ-ofZ (c .before .before .before .fits .p)) (within c))
 
--- src/decimal.rt:48:1
 returns-3 : tie.Need-returns-3
-returns-3 c = ?
+unfolding decimalOf
+returns-3 c =
+    let e = c .before .before in
+    simp (c .if3 .taken, within e, lt-ltb _ _ (e .before .before .if1 .left), rw (toZ-ofZ (e .before .before .before .fits .p)) at (c .before .value .ensures))
 
--- src/decimal.rt:48:1
 returns-4 : tie.Need-returns-4
-returns-4 c = ?
+unfolding decimalOf
+returns-4 c =
+    let e = c .before .before in
+    simp (c .if3 .left, within e, lt-ltb _ _ (e .before .before .if1 .left), rw (toZ-ofZ (e .before .before .before .fits .p)) at (c .before .value .ensures))
 
 pub decimal-spec : {M : Type 1} → statement M
-decimal-spec =
-    tie.close (tie.spec returns in-range-requires returns-2 value-requires returns-3 returns-4)
+decimal-spec = tie.close (tie.spec returns in-range-requires returns-2 value-requires returns-3 returns-4)
