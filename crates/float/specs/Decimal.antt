@@ -5,6 +5,7 @@ use lib.Dec.{ltb}
 use lib.IntN.{ℤ, pos, negsuc, negℤ}
 use lib.Signed.{leZ}
 use lib.Ieee.{Float, neg}
+use Rattle.float.specs.Pick.{pick}
 use Rattle.float.specs.Numbers.{whole, _*ᶠ_, _/ᶠ_}
 use Rattle.float.specs.declared.decimal.Literal.{Literal}
 use Rattle.float.specs.declared.decimal.Literal.the-variants.{Value, OutOfRange}
@@ -24,11 +25,7 @@ signed false v = v
 unfoldable pub inRange : ℤ → Bool
 inRange p = leZ (negℤ (pos 22)) p && leZ p (pos 22)
 
-unfoldable pub pick : Bool → Literal → Literal → Literal
-pick true a b = a
-pick false a b = b
-
 -- "The port takes at most 15 digits before the exponent, .. and p from −22 to 22"
 unfoldable pub decimalOf : ℕ → ℤ → Bool → Literal
-unfolding value signed inRange pick
+unfolding value signed inRange
 decimalOf w p minus = pick (ltb w (10 ^ 15) && inRange p) (Value (signed minus (value w p))) OutOfRange

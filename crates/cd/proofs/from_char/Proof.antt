@@ -1,0 +1,109 @@
+use Rattle.cd.proofs.from_char.Statement.{statement}
+use Rattle.cd.proofs.from_char.Tie as tie
+use Rattle.cd.proofs.from_char.Reads as reads
+use Rattle.cd.proofs.from_char.Lts as lts
+
+-- src/lib.rt:78:1
+returns : tie.Need-returns
+returns c = ?
+
+-- src/lib.rt:78:1
+returns-2 : tie.Need-returns-2
+returns-2 c = ?
+
+-- src/lib.rt:78:1
+returns-3 : tie.Need-returns-3
+returns-3 c = ?
+
+-- src/lib.rt:78:1
+returns-4 : tie.Need-returns-4
+returns-4 c = ?
+
+-- src/lib.rt:78:1
+returns-5 : tie.Need-returns-5
+returns-5 c = ?
+
+-- src/lib.rt:78:1
+returns-6 : tie.Need-returns-6
+returns-6 c = ?
+
+-- src/lib.rt:78:1
+returns-7 : tie.Need-returns-7
+returns-7 c = ?
+
+-- src/lib.rt:78:1
+returns-8 : tie.Need-returns-8
+returns-8 c = ?
+
+-- src/lib.rt:78:1
+returns-9 : tie.Need-returns-9
+returns-9 c = ?
+
+-- src/lib.rt:78:1
+returns-10 : tie.Need-returns-10
+returns-10 c = ?
+
+-- src/lib.rt:78:1
+returns-11 : tie.Need-returns-11
+returns-11 c = ?
+
+-- src/lib.rt:78:1
+returns-12 : tie.Need-returns-12
+returns-12 c = ?
+
+-- src/lib.rt:78:1
+returns-13 : tie.Need-returns-13
+returns-13 c = ?
+
+-- src/lib.rt:78:1
+returns-14 : tie.Need-returns-14
+returns-14 c = ?
+
+-- src/lib.rt:78:1
+returns-15 : tie.Need-returns-15
+returns-15 c = ?
+
+-- src/lib.rt:78:1
+returns-16 : tie.Need-returns-16
+returns-16 c = ?
+
+-- src/lib.rt:78:1
+returns-17 : tie.Need-returns-17
+returns-17 c = ?
+
+-- src/lib.rt:78:1
+returns-18 : tie.Need-returns-18
+returns-18 c = ?
+
+-- src/lib.rt:78:1
+returns-19 : tie.Need-returns-19
+returns-19 c = ?
+
+-- src/lib.rt:78:1
+returns-20 : tie.Need-returns-20
+returns-20 c = ?
+
+pub from-char-spec : {M : Type 1} → statement M
+from-char-spec =
+    tie.close
+    (tie.spec
+    returns
+    returns-2
+    returns-3
+    returns-4
+    returns-5
+    returns-6
+    returns-7
+    returns-8
+    returns-9
+    returns-10
+    returns-11
+    returns-12
+    returns-13
+    returns-14
+    returns-15
+    returns-16
+    returns-17
+    returns-18
+    returns-19
+    returns-20)

@@ -1,0 +1,13 @@
+-- Document 01, "Nodes and edges": edges.
+use Prim.Native.Nat.{ℕ, _*_}
+use mathlib.Core.Bool.{Bool, not, _&&_}
+use lib.Dec.{ltb, eqb}
+use Rattle.cd.specs.declared.Edge.{Edge}
+
+-- "num > 1, den not 0, den < num"
+unfoldable pub isEdge : ℕ → ℕ → Bool
+isEdge num den = ltb 1 num && (not (eqb den 0) && ltb den num)
+
+-- "It is two when num = 2×den, taken without wrapping."
+unfoldable pub isTwo : Edge → Bool
+isTwo e = eqb (e .num) (2 * e .den)

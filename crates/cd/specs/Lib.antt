@@ -1,0 +1,7 @@
+-- Document 01, "Nodes and edges", and what a diagram is.
+pub mod Letters
+pub mod Edges
+pub mod References
+pub mod Refusals
+pub mod Arrays
+pub mod Diagrams

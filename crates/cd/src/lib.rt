@@ -1,0 +1,192 @@
+// cd.rs of miratope-core: nodes, edges, references, refusals and diagrams.
+ghost use mathlib.Core.Path.{_≡_};
+ghost use Prim.Native.Nat.{_<_};
+ghost use Rattle.cd.specs.Letters.{letterOf};
+ghost use Rattle.cd.specs.Edges.{isEdge, isTwo};
+ghost use Rattle.cd.specs.References.{indexOf, endsOf};
+ghost use Rattle.cd.specs.Diagrams.{placeOf};
+
+pub mod minimal; // minimal.rt: components, and whether a diagram is minimal
+
+// Compared by match and by bits.
+pub enum Node {
+    Unringed,
+    Ringed(f64),
+    Snub(f64),
+}
+
+pub struct Edge {
+    pub num: u32,
+    pub den: u32,
+}
+
+// An index, or an offset from the end.
+pub enum NodeRef {
+    Absolute(u8),
+    Negative(u8),
+}
+
+pub struct EdgeRef {
+    pub first: NodeRef,
+    pub other: NodeRef,
+    pub edge: Edge,
+}
+
+// What a text is refused with; document 01's numbers are `numberOf` in specs/Refusals.antt.
+pub enum CdError {
+    TooLong { pos: usize },
+    NotAscii { pos: usize },
+    MismatchedParenthesis { pos: usize },
+    UnexpectedEnding { pos: usize },
+    ParseError { pos: usize },
+    InvalidSymbol { pos: usize },
+    InvalidEdge { num: u32, den: u32, pos: usize },
+    RepeatEdge { a: usize, b: usize },
+    OutOfRange { pos: usize },
+    TooManyNodes { pos: usize },
+    MissingNode { edge: usize },
+}
+
+pub struct Place {
+    pub node: Node,
+}
+
+// What joins two nodes, or a node to itself: nothing, or the edge that was stored as the rank-th, from 1.
+// (No padding, and all zero where nothing is stored: such places are filled and copied as plain memory.)
+pub struct Pair {
+    pub rank: u32,
+    pub edge: Edge,
+}
+
+// A diagram: its nodes in the order read, and a place for each pair, loops included.
+pub struct Cd {
+    pub nodes: [Place; 9],
+    pub count: usize,
+    pub pairs: [Pair; 45],
+    pub edges: usize,
+}
+
+// The node that a letter stands for, if it does.
+pub enum Letter {
+    Stands(Node),
+    Unknown,
+}
+
+// The root of R2 + 2.
+const ROOT: f64 = 1.8477590650225735;
+
+pub fn from_char(c: u8) -> Letter
+    ensures { λ r. ⌜ r ≡ letterOf c ⌝ }
+{
+    match c {
+        b'o' => Letter::Stands(Node::Unringed),
+        b's' => Letter::Stands(Node::Snub(1.0)),
+        b'v' => Letter::Stands(Node::Ringed((float::constants::SQRT_5 - 1.0) / 2.0)),
+        b'x' => Letter::Stands(Node::Ringed(1.0)),
+        b'q' => Letter::Stands(Node::Ringed(float::constants::SQRT_2)),
+        b'f' => Letter::Stands(Node::Ringed((float::constants::SQRT_5 + 1.0) / 2.0)),
+        b'h' => Letter::Stands(Node::Ringed(float::constants::SQRT_3)),
+        b'k' => Letter::Stands(Node::Ringed(ROOT)),
+        b'u' => Letter::Stands(Node::Ringed(2.0)),
+        b'w' => Letter::Stands(Node::Ringed(float::constants::SQRT_2 + 1.0)),
+        b'F' => Letter::Stands(Node::Ringed((float::constants::SQRT_5 + 3.0) / 2.0)),
+        b'e' => Letter::Stands(Node::Ringed(float::constants::SQRT_3 + 1.0)),
+        b'Q' => Letter::Stands(Node::Ringed(float::constants::SQRT_2 * 2.0)),
+        b'd' => Letter::Stands(Node::Ringed(3.0)),
+        b'V' => Letter::Stands(Node::Ringed(float::constants::SQRT_5 + 1.0)),
+        b'U' => Letter::Stands(Node::Ringed(float::constants::SQRT_2 + 2.0)),
+        b'A' => Letter::Stands(Node::Ringed((float::constants::SQRT_5 + 1.0) / 4.0 + 1.0)),
+        b'X' => Letter::Stands(Node::Ringed(float::constants::SQRT_2 * 2.0 + 1.0)),
+        b'B' => Letter::Stands(Node::Ringed(float::constants::SQRT_5 + 2.0)),
+        _ => Letter::Unknown,
+    }
+}
+
+// Whether two numbers are an edge.
+pub fn is_edge(num: u32, den: u32) -> bool
+    ensures { λ r. ⌜ r ≡ isEdge num den ⌝ }
+{
+    if num <= 1 {
+        return false;
+    }
+    if den == 0 {
+        return false;
+    }
+    den < num
+}
+
+// Whether an edge is worth 2, taken without wrapping.
+pub fn eq_two(e: Edge) -> bool
+    ensures { λ r. ⌜ r ≡ isTwo e ⌝ }
+{
+    e.num as u64 == 2 * (e.den as u64)
+}
+
+// Where a reference leads.
+pub enum Found {
+    At(usize),
+    Missing,
+}
+
+// The node that a reference means, of len nodes.
+pub fn index(r: NodeRef, len: usize) -> Found
+    ensures { λ i. ⌜ i ≡ indexOf r len ⌝ }
+{
+    match r {
+        NodeRef::Absolute(k) => {
+            let i = k as usize;
+            if i < len {
+                Found::At(i)
+            } else {
+                Found::Missing
+            }
+        }
+        NodeRef::Negative(k) => {
+            let i = k as usize;
+            if i < len {
+                Found::At(len - 1 - i)
+            } else {
+                Found::Missing
+            }
+        }
+    }
+}
+
+// What is to be done with an edge that waits.
+pub enum Ends {
+    // It is worth 2, and dropped unseen.
+    Dropped,
+    Missing,
+    Both(usize, usize),
+}
+
+// The nodes that an edge joins, of len.
+pub fn indices(e: EdgeRef, len: usize) -> Ends
+    ensures { λ r. ⌜ r ≡ endsOf e len ⌝ }
+{
+    let edge = e.edge;
+    if eq_two(edge) {
+        return Ends::Dropped;
+    }
+    let first = e.first;
+    let other = e.other;
+    match index(first, len) {
+        Found::Missing => Ends::Missing,
+        Found::At(a) => match index(other, len) {
+            Found::Missing => Ends::Missing,
+            Found::At(b) => Ends::Both(a, b),
+        },
+    }
+}
+
+// The place of a pair, loops included.
+pub fn pair_place(a: usize, b: usize) -> usize
+    requires { ⌜ (a < 9) × (b < 9) ⌝ }
+    ensures { λ r. ⌜ (r ≡ placeOf a b) × (r < 45) ⌝ }
+{
+    if a < b {
+        b * (b + 1) / 2 + a
+    } else {
+        a * (a + 1) / 2 + b
+    }
+}

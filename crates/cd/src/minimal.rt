@@ -1,0 +1,1 @@
+// Components, and whether a diagram is minimal.
