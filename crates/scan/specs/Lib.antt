@@ -1,0 +1,4 @@
+-- Document 01, "Reading": bytes, spaces, edges.
+pub mod Bytes
+pub mod Spaces
+pub mod Edges
