@@ -1,0 +1,3 @@
+-- Document 01, "Lengths in parentheses".
+pub mod Literals
+pub mod Kept
