@@ -1,6 +1,6 @@
 -- Document 01, "Filing record": a text's "diagram is its nodes in the order read, with the edges stored". How the code holds it is `cdOf`.
 use Prim.Native.Nat.{ℕ, _+_, _*_, _/_}
-use mathlib.Core.Bool.{Bool, _&&_, _||_}
+use mathlib.Core.Bool.{Bool, false, _&&_, _||_}
 use mathlib.Core.List.{List, [], _∷_, map}
 use lib.Dec.{ltb, eqb}
 use lib.ListN.{length}
@@ -22,6 +22,12 @@ pub record Stored : Type 0 where
 -- the edge joins i and j, "the pair, in either order"
 unfoldable pub joins : ℕ → ℕ → Stored → Bool
 joins i j s = (eqb (s .first) i && eqb (s .other) j) || (eqb (s .first) j && eqb (s .other) i)
+
+-- some stored edge joins i and j
+unfoldable pub isJoined : List Stored → ℕ → ℕ → Bool
+unfolding joins
+isJoined [] i j = false
+isJoined (s ∷ ss) i j = joins i j s || isJoined ss i j
 
 abbrev pub none : Pair
 none = record { rank = 0; edge = record { num = 0; den = 0 } }

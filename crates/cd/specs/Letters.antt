@@ -50,4 +50,5 @@ find [] b = Unknown
 find (e ∷ es) b = let r = find es b in pick (eqb b (code (e .letter))) (Stands (e .node)) r
 
 unfoldable pub letterOf : ℕ → Letter
+unfolding find letters
 letterOf b = find letters b

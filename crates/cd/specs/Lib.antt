@@ -5,3 +5,6 @@ pub mod References
 pub mod Refusals
 pub mod Arrays
 pub mod Diagrams
+pub mod Paths
+pub mod Minimal
+pub mod Labels

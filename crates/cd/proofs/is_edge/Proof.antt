@@ -1,19 +1,20 @@
+-- `cd::is_edge` meets its contract: each of the definition's tests is one of the code's. Assumes nothing.
+use borrow.Author.Tests.{lt-ltb, le-ltb, eq-eqb, ne-eqb}
+use Rattle.cd.specs.Edges.{isEdge}
 use Rattle.cd.proofs.is_edge.Statement.{statement}
 use Rattle.cd.proofs.is_edge.Tie as tie
-use Rattle.cd.proofs.is_edge.Reads as reads
-use Rattle.cd.proofs.is_edge.Lts as lts
 
--- src/lib.rt:110:9
 returns : tie.Need-returns
-returns c = ?
+unfolding isEdge
+returns c = simp (le-ltb 1 _ (c .if1 .taken))
 
--- src/lib.rt:113:9
 returns-2 : tie.Need-returns-2
-returns-2 c = ?
+unfolding isEdge
+returns-2 c = simp (lt-ltb 1 _ (c .before .if1 .left), eq-eqb _ 0 (c .if2 .taken))
 
--- src/lib.rt:106:1
 returns-3 : tie.Need-returns-3
-returns-3 c = ?
+unfolding isEdge
+returns-3 c = simp (lt-ltb 1 _ (c .before .if1 .left), ne-eqb _ 0 (c .if2 .left))
 
 pub is-edge-spec : {M : Type 1} → statement M
 is-edge-spec = tie.close (tie.spec returns returns-2 returns-3)

@@ -1,0 +1,103 @@
+-- An edge that is stored after the others changes what joins its own two nodes, if nothing did, and no other pair: so the array of all pairs
+-- changes in that pair's place alone. Assumes nothing.
+use Prim.Native.Nat.{ℕ, suc, _+_, _<_}
+use mathlib.Core.Bool.{Bool, true, false, _&&_, or-comm}
+use mathlib.Core.List.{List, [], _∷_, _++_}
+use mathlib.Core.Logic.{inl, inr, ⊎-elim}
+use mathlib.Core.Path.{_≡_, refl, ap, _∙_}
+use native.Mathlib.Nat.{add-comm, add-zero, not-suc-le-zero}
+use native.Mathlib.Omega.{arith}
+use borrow.Author.Tests.{eqb-true, eq-eqb}
+use lib.Dec.{eqb}
+use lib.ListN.{length, getD, set, replicate}
+use Rattle.float.specs.Pick.{pick}
+use Rattle.cd.specs.Arrays.{triangle}
+use Rattle.cd.specs.Diagrams.{Stored, joins, none, between, limit, placeOf}
+use Rattle.cd.specs.declared.Edge.{Edge}
+use Rattle.cd.specs.declared.Pair.{Pair}
+use Rattle.cd.proofs.Arrays.{Same, getD-triangle, set-triangle, triangle-blank}
+
+-- ---- joins
+
+and-false : (p q : Bool) → (p ≡ true → q ≡ true → ⊥) → p && q ≡ false
+and-false true true h = absurd (h refl refl)
+and-false true false h = refl
+and-false false q h = refl
+
+module _ (i j : ℕ) (s : Stored) where
+  pub joins-symmetric : joins i j s ≡ joins j i s
+  unfolding joins
+  joins-symmetric = or-comm (eqb (s .first) i && eqb (s .other) j) (eqb (s .first) j && eqb (s .other) i)
+
+  pub joins-same : Same (s .first) (s .other) i j → joins i j s ≡ true
+  unfolding joins
+  joins-same h =
+      ⊎-elim
+      (λ p. rw (eq-eqb (s .first) i (p .0), eq-eqb (s .other) j (p .1)))
+      (λ p. rw (or-comm (eqb (s .first) i && eqb (s .other) j), eq-eqb (s .first) j (p .0), eq-eqb (s .other) i (p .1)))
+      h
+
+  pub joins-other : (Same (s .first) (s .other) i j → ⊥) → joins i j s ≡ false
+  unfolding joins
+  joins-other h =
+      rw (
+        and-false (eqb (s .first) i) (eqb (s .other) j) (λ p q. h (inl (eqb-true (s .first) i p, eqb-true (s .other) j q))),
+        and-false (eqb (s .first) j) (eqb (s .other) i) (λ p q. h (inr (eqb-true (s .first) j p, eqb-true (s .other) i q))),
+      )
+
+-- ---- between
+
+pub between-symmetric : (k : ℕ) (es : List Stored) (i j : ℕ) → between k es i j ≡ between k es j i
+unfolding between
+between-symmetric k [] i j = refl
+between-symmetric k (s ∷ es) i j = rw (joins-symmetric i j s, between-symmetric (k + 1) es i j)
+
+between-same : (k : ℕ) (es : List Stored) (a b i j : ℕ) → Same a b i j → between k es i j ≡ between k es a b
+between-same k es a b i j = ⊎-elim (λ p. rw (p .0, p .1)) (λ p. rw (p .0, p .1) (between-symmetric k es i j))
+
+-- of two, one with a rank was not picked where the rank is 0
+not-first : (t : Bool) (p q : Pair) → 0 < p .rank → pick t p q .rank ≡ 0 → t ≡ false
+not-first true p q l h = let z : ⊥ = omega arith in absurd z
+not-first false p q l h = refl
+
+pub between-append : (k : ℕ) (es : List Stored) (s : Stored) (i j : ℕ) → between k es i j .rank ≡ 0 → 0 < k → between k (es ++ (s ∷ [])) i j ≡ pick (joins i j s) (record { rank = k + length es; edge = s .edge }) none
+unfolding between
+between-append k [] s i j h l = rw add-zero
+between-append k (e ∷ es) s i j h l =
+    let n : joins i j e ≡ false = not-first (joins i j e) (record { rank = k; edge = e .edge }) (between (k + 1) es i j) l h in
+    let m : k + 1 + length es ≡ k + suc (length es) = omega arith in
+    rw n (between-append (k + 1) es s i j (rw n at h) (omega arith) ∙ rw m)
+
+-- what joins two nodes stays where the edge joins others
+pub between-other : (k : ℕ) (es : List Stored) (s : Stored) (i j : ℕ) → joins i j s ≡ false → between k (es ++ (s ∷ [])) i j ≡ between k es i j
+unfolding between
+between-other k [] s i j h = rw h
+between-other k (e ∷ es) s i j h = rw (between-other (k + 1) es s i j h)
+
+kept : (t : Bool) (p q r : Pair) → 0 < pick t p q .rank → (0 < q .rank → r ≡ q) → pick t p r ≡ pick t p q
+kept true p q r h f = refl
+kept false p q r h f = f h
+
+-- and where an edge joined them before
+pub between-kept : (k : ℕ) (es : List Stored) (s : Stored) (i j : ℕ) → 0 < between k es i j .rank → between k (es ++ (s ∷ [])) i j ≡ between k es i j
+unfolding between
+between-kept k [] s i j h = absurd (not-suc-le-zero h)
+between-kept k (e ∷ es) s i j h =
+    kept (joins i j e) (record { rank = k; edge = e .edge }) (between (k + 1) es i j) (between (k + 1) (es ++ (s ∷ [])) i j) h (between-kept (k + 1) es s i j)
+
+-- ---- the array of all pairs
+
+pub nothing-stored : triangle (between 1 []) limit ≡ replicate 45 none
+unfolding between
+nothing-stored = triangle-blank none limit
+
+module _ (es : List Stored) (a b : ℕ) where
+  pub loaded : (d : Pair) → a < limit → b < limit → getD (triangle (between 1 es) limit) (placeOf a b) d ≡ between 1 es a b
+  loaded d p q = getD-triangle (between 1 es) d limit a b (between-symmetric 1 es) p q
+
+  pub stored : (e : Edge) → a < limit → b < limit → between 1 es a b .rank ≡ 0 → set (triangle (between 1 es) limit) (placeOf a b) (record { rank = length es + 1; edge = e }) ≡ triangle (between 1 (es ++ (record { first = a; other = b; edge = e } ∷ []))) limit
+  stored e p q h =
+      let s : Stored = record { first = a; other = b; edge = e } in
+      set-triangle (between 1 es) (between 1 (es ++ (s ∷ []))) (record { rank = length es + 1; edge = e }) limit a b p q
+      (λ i j l m. between-append 1 es s i j (ap (λ (x : Pair). x .rank) (between-same 1 es a b i j m) ∙ h) (omega arith) ∙ rw (joins-same i j s m, add-comm 1))
+      (λ i j l m. between-other 1 es s i j (joins-other i j s m))

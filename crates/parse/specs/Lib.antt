@@ -1,0 +1,7 @@
+-- Document 01, "Reading", and of "What each operation refuses" the paragraph "Text".
+pub mod Nodes
+pub mod Text
+pub mod Joining
+pub mod Reading
+pub mod Held
+pub mod Texts

@@ -1,0 +1,216 @@
+// parse.rs of miratope-core: a text read into a diagram.
+use cd::Cd;
+use cd::CdError;
+use cd::Edge;
+use cd::EdgeRef;
+use cd::Ends;
+use cd::Node;
+use cd::NodeRef;
+use cd::Pair;
+use cd::Place;
+use node::NodeRead;
+use scan::EdgeRead;
+ghost use mathlib.Core.Path.{_≡_};
+ghost use mathlib.Core.List.{[]};
+ghost use Prim.Native.Nat.{_≤_};
+ghost use lib.ListN.{length, take};
+ghost use Rattle.parse.specs.Text.{textFrom};
+ghost use Rattle.parse.specs.Joining.{joinAll};
+ghost use Rattle.parse.specs.Reading.{Reading, joined, high, readFrom, answer};
+ghost use Rattle.parse.specs.Held.{holding};
+
+pub mod node; // node.rt: nodes and references
+
+// Edges wait here. A turn that adds one reads two bytes, so 128 places do for 255.
+pub struct Queue {
+    pub at: [EdgeRef; 128],
+    pub count: usize,
+}
+
+pub enum Answer {
+    Accepted,
+    Refused(CdError),
+}
+
+// A diagram, or a refusal with the diagram without nodes.
+pub struct Read {
+    pub answer: Answer,
+    pub cd: Cd,
+}
+
+pub fn refused(r: CdError) -> Read
+    ensures { λ a. ⌜ a ≡ answer (Reading.Refused r) ⌝ }
+{
+    let place = Place {
+        node: Node::Unringed,
+    };
+    let none = Pair {
+        rank: 0,
+        edge: Edge { num: 0, den: 0 },
+    };
+    Read {
+        answer: Answer::Refused(r),
+        cd: Cd {
+            nodes: [place; 9],
+            count: 0,
+            pairs: [none; 45],
+            edges: 0,
+        },
+    }
+}
+
+// The queue joined in order, over the nodes in their places.
+pub fn join_all(nodes: [Place; 9], count: usize, queue: Queue) -> Read
+    requires { ⌜ (count ≤ 9) × (queue .count ≤ 128) ⌝ }
+    ensures { λ r. ⌜ r ≡ holding nodes count (joinAll count (take (queue .count) (queue .at)) 0 []) ⌝ }
+{
+    let none = Pair {
+        rank: 0,
+        edge: Edge { num: 0, den: 0 },
+    };
+    let mut pairs = [none; 45];
+    let mut edges: usize = 0;
+    let waiting = queue.count;
+    let mut k = 0;
+    while k < waiting {
+        let e = queue.at[k];
+        match cd::indices(e, count) {
+            Ends::Missing => {
+                return refused(CdError::MissingNode { edge: k });
+            }
+            Ends::Dropped => {
+                k += 1;
+            }
+            Ends::Both(a, b) => {
+                let p = cd::pair_place(a, b);
+                let was = pairs[p];
+                if 0 < was.rank {
+                    return refused(CdError::RepeatEdge { a: a, b: b });
+                }
+                let edge = e.edge;
+                edges += 1;
+                pairs[p] = Pair {
+                    rank: edges as u32,
+                    edge: edge,
+                };
+                k += 1;
+            }
+        }
+    }
+    Read {
+        answer: Answer::Accepted,
+        cd: Cd {
+            nodes: nodes,
+            count: count,
+            pairs: pairs,
+            edges: edges,
+        },
+    }
+}
+
+// The text from `start` on: a node, then, while bytes remain, an optional edge and a node. (Nodes and queue are locals of the
+// loop and stored in place: to hand them through a function at each turn would cost more than all else.)
+pub fn read(s: &[u8], start: usize) -> Read
+    requires { ⌜ (start ≤ length (now s)) × (length (now s) ≤ 255) ⌝ }
+    ensures { λ r. ⌜ r ≡ answer (joined (textFrom (now (s .entry)) start)) ⌝ }
+{
+    let place = Place {
+        node: Node::Unringed,
+    };
+    let none = Edge { num: 0, den: 0 };
+    let first = NodeRef::Absolute(0);
+    let blank = EdgeRef {
+        first: first,
+        other: first,
+        edge: none,
+    };
+    let mut nodes = [place; 9];
+    let mut count = 0;
+    let mut queue = Queue {
+        at: [blank; 128],
+        count: 0,
+    };
+    let mut at = start;
+    let mut prev = first;
+    // The edge that was read last, if its num is not 0.
+    let mut edge = none;
+    loop {
+        let i = scan::skip_whitespace(s, at);
+        let mut this = first;
+        let mut next = i;
+        match node::create_node(s, i) {
+            NodeRead::Refused(r) => {
+                return refused(r);
+            }
+            NodeRead::Referred(r, to) => {
+                this = r;
+                next = to;
+            }
+            NodeRead::Added(n, to) => {
+                if 9 <= count {
+                    return refused(CdError::TooManyNodes { pos: i });
+                }
+                this = NodeRef::Absolute(count as u8);
+                nodes[count] = Place { node: n };
+                count += 1;
+                next = to;
+            }
+        }
+        if 0 < edge.num {
+            let c = queue.count;
+            queue.at[c] = EdgeRef {
+                first: prev,
+                other: this,
+                edge: edge,
+            };
+            queue.count = c + 1;
+        }
+        prev = this;
+        if s.len() <= next {
+            return join_all(nodes, count, queue);
+        }
+        match scan::create_edge(s, next) {
+            EdgeRead::NoEdge => {
+                edge = none;
+                at = next;
+            }
+            EdgeRead::Read(e, to) => {
+                edge = e;
+                at = to;
+            }
+            EdgeRead::Refused(r) => {
+                return refused(r);
+            }
+        }
+    }
+}
+
+// The place of the first byte of 128 or more, or the length.
+pub fn not_ascii(s: &[u8]) -> usize
+    ensures { λ r. ⌜ r ≡ high (now (s .entry)) 0 ⌝ }
+{
+    let mut i = 0;
+    while i < s.len() {
+        if 128 <= s[i] {
+            return i;
+        } else {
+            i += 1;
+        }
+    }
+    i
+}
+
+// The diagram of the text from `at` on, or what refuses it.
+pub fn parse_from(s: &[u8], at: usize) -> Read
+    requires { ⌜ at ≤ length (now s) ⌝ }
+    ensures { λ r. ⌜ r ≡ answer (readFrom (now (s .entry)) at) ⌝ }
+{
+    if 255 < s.len() {
+        return refused(CdError::TooLong { pos: 255 });
+    }
+    let high = not_ascii(s);
+    if high < s.len() {
+        return refused(CdError::NotAscii { pos: high });
+    }
+    read(s, at)
+}
