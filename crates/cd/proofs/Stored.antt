@@ -1,18 +1,18 @@
 -- An edge that is stored after the others changes what joins its own two nodes, if nothing did, and no other pair: so the array of all pairs
 -- changes in that pair's place alone. Assumes nothing.
 use Prim.Native.Nat.{ℕ, suc, _+_, _<_}
-use mathlib.Core.Bool.{Bool, true, false, _&&_, or-comm}
+use mathlib.Core.Bool.{Bool, true, false, _&&_, _||_, or-comm}
 use mathlib.Core.List.{List, [], _∷_, _++_}
 use mathlib.Core.Logic.{inl, inr, ⊎-elim}
 use mathlib.Core.Path.{_≡_, refl, ap, _∙_}
 use native.Mathlib.Nat.{add-comm, add-zero, not-suc-le-zero}
 use native.Mathlib.Omega.{arith}
-use borrow.Author.Tests.{eqb-true, eq-eqb}
-use lib.Dec.{eqb}
+use borrow.Author.Tests.{eqb-true, eq-eqb, lt-ltb}
+use lib.Dec.{eqb, ltb}
 use lib.ListN.{length, getD, set, replicate}
 use Rattle.float.specs.Pick.{pick}
 use Rattle.cd.specs.Arrays.{triangle}
-use Rattle.cd.specs.Diagrams.{Stored, joins, none, between, limit, placeOf}
+use Rattle.cd.specs.Diagrams.{Stored, joins, isJoined, none, between, limit, placeOf}
 use Rattle.cd.specs.declared.Edge.{Edge}
 use Rattle.cd.specs.declared.Pair.{Pair}
 use Rattle.cd.proofs.Arrays.{Same, getD-triangle, set-triangle, triangle-blank}
@@ -101,3 +101,13 @@ module _ (es : List Stored) (a b : ℕ) where
       set-triangle (between 1 es) (between 1 (es ++ (s ∷ []))) (record { rank = length es + 1; edge = e }) limit a b p q
       (λ i j l m. between-append 1 es s i j (ap (λ (x : Pair). x .rank) (between-same 1 es a b i j m) ∙ h) (omega arith) ∙ rw (joins-same i j s m, add-comm 1))
       (λ i j l m. between-other 1 es s i j (joins-other i j s m))
+
+-- a pair has a rank exactly when some stored edge joins it
+ranked : (t : Bool) (k : ℕ) (e : Edge) (p : Pair) (u : Bool) → 0 < k → ltb 0 (p .rank) ≡ u → ltb 0 (pick t (record { rank = k; edge = e }) p .rank) ≡ t || u
+ranked true k e p u h q = lt-ltb 0 k h
+ranked false k e p u h q = q
+
+pub rank-joined : (k : ℕ) (es : List Stored) (i j : ℕ) → 0 < k → ltb 0 (between k es i j .rank) ≡ isJoined es i j
+unfolding between isJoined
+rank-joined k [] i j h = refl
+rank-joined k (s ∷ es) i j h = ranked (joins i j s) k (s .edge) (between (k + 1) es i j) (isJoined es i j) h (rank-joined (k + 1) es i j (omega arith))

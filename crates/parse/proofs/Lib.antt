@@ -1,1 +1,3 @@
+mod JoinLaws
+mod ReadLaws
 mod TextsRight

@@ -1,15 +1,16 @@
+-- `scan::closes` meets its contract. Assumes nothing.
+use borrow.Author.Tests.{lt-ltb, le-ltb}
+use Rattle.scan.specs.Edges.{closes}
 use Rattle.scan.proofs.closes.Statement.{statement}
 use Rattle.scan.proofs.closes.Tie as tie
-use Rattle.scan.proofs.closes.Reads as reads
-use Rattle.scan.proofs.closes.Lts as lts
 
--- src/lib.rt:115:1
 returns : tie.Need-returns
-returns c = ?
+unfolding closes
+returns c = simp (lt-ltb _ _ (c .if1 .taken))
 
--- src/lib.rt:115:1
 returns-2 : tie.Need-returns-2
-returns-2 c = ?
+unfolding closes
+returns-2 c = simp (le-ltb _ _ (c .if1 .left))
 
 pub closes-spec : {M : Type 1} → statement M
 closes-spec = tie.close (tie.spec returns returns-2)

@@ -1,26 +1,23 @@
+-- `scan::grown` meets its contract: a digit is at least `0`, and the bound on `most` keeps the sum from wrapping. Assumes nothing.
 use borrow.Author.Needs.{needs}
+use Rattle.scan.specs.Bytes.{isDigit}
+use Rattle.scan.proofs.Ranges.{low-of-within}
 use Rattle.scan.proofs.grown.Statement.{statement}
 use Rattle.scan.proofs.grown.Tie as tie
-use Rattle.scan.proofs.grown.Reads as reads
-use Rattle.scan.proofs.grown.Lts as lts
 
--- src/lib.rt:51:16
 mul-next : tie.Need-mul-next
 mul-next c = search needs
 
--- src/lib.rt:51:26
 sub-next : tie.Need-sub-next
-sub-next c = ?
+unfolding isDigit
+sub-next c = low-of-within _ _ _ (c .pre .2)
 
--- src/lib.rt:51:16
 add-next : tie.Need-add-next
 add-next c = search needs
 
--- src/lib.rt:47:1
 returns : tie.Need-returns
 returns c = search needs
 
--- src/lib.rt:47:1
 returns-2 : tie.Need-returns-2
 returns-2 c = search needs
 

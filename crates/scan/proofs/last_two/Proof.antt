@@ -1,33 +1,28 @@
+-- `scan::last_two` meets its contract: its arms are the definition's. Assumes nothing.
 use borrow.Author.Needs.{needs}
+use Rattle.scan.specs.Edges.{lastTwo}
 use Rattle.scan.proofs.last_two.Statement.{statement}
 use Rattle.scan.proofs.last_two.Tie as tie
-use Rattle.scan.proofs.last_two.Reads as reads
-use Rattle.scan.proofs.last_two.Lts as lts
-use Rattle.scan.proofs.rational.Reads as rational-reads
 
--- src/lib.rt:109:28
 enum-told : tie.Need-enum-told
 enum-told c = search needs
 
--- src/lib.rt:109:28
 rational-requires : tie.Need-rational-requires
 rational-requires c κs = search needs
 
--- src/lib.rt:110:24
 enum-known-before : tie.Need-enum-known-before
 enum-known-before c = search needs
 
--- src/lib.rt:110:30
 rational-requires-2 : tie.Need-rational-requires-2
 rational-requires-2 c κs = search needs
 
--- src/lib.rt:104:1
 returns : tie.Need-returns
-returns c = ?
+unfolding lastTwo
+returns c = rw (c .before .enum-told .given .1) (c .rational .ensures)
 
--- src/lib.rt:104:1
 returns-2 : tie.Need-returns-2
-returns-2 c = ?
+unfolding lastTwo
+returns-2 c = rw (c .before .before .before2 .given .1) (c .rational2 .ensures)
 
 pub last-two-spec : {M : Type 1} → statement M
 last-two-spec =

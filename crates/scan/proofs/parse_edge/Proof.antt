@@ -1,121 +1,130 @@
+-- `scan::parse_edge` meets its contract. The invariant: the run from here on, with the parts so far, reads what the run from `at` on reads; a value kept up to
+-- 2 ^ 32 is enough for that, and each turn is the run's law at the byte's sort. The measure is what is left of the length. Assumes nothing.
+use Prim.Native.Nat.{_≤_, _<_, _-_, _^_}
+use mathlib.Core.Path.{_≡_, sym, _∙_}
+use native.Mathlib.Omega.{arith}
+use lib.ListN.{length, drop}
+use borrow.Author.Needs.{needs}
+use Rattle.scan.specs.Edges.{empty, run}
+use Rattle.scan.specs.declared.Before.the-variants.{Nothing}
+use Rattle.scan.proofs.Runs.{run-at-digit, run-at-slash, run-at-slash-refused, run-at-terminator, run-at-terminator-refused, run-at-other, run-at-end, closes-small, digit-of-sort}
 use Rattle.scan.proofs.parse_edge.Statement.{statement}
 use Rattle.scan.proofs.parse_edge.Tie as tie
-use Rattle.scan.proofs.parse_edge.Reads as reads
-use Rattle.scan.proofs.parse_edge.Lts as lts
-use Rattle.scan.proofs.closes.Reads as closes-reads
-use Rattle.scan.proofs.grown.Reads as grown-reads
-use Rattle.scan.proofs.last_two.Reads as last-two-reads
-use Rattle.scan.proofs.sort_of.Reads as sort-of-reads
 
 abbrev Inv-loop : tie.InvT-loop
-Inv-loop s at value₀ some₀ before₀ i₀ value some before i = ?
+Inv-loop s at value₀ some₀ before₀ i₀ value some before i =
+    (0 < i) × (i ≤ length s) × (value ≤ 2 ^ 32) × (run (drop i s) i before (record { value = value; some = some }) ≡ run (drop at s) at Nothing empty)
 
 abbrev μ-loop : tie.MeasureT-loop
-μ-loop s at value₀ some₀ before₀ i₀ value some before i = ?
+μ-loop s at value₀ some₀ before₀ i₀ value some before i = length s - i
 
--- src/lib.rt:131:5
 loop-holds : tie.Need-loop-holds Inv-loop μ-loop
-loop-holds c = ?
+loop-holds c = search needs
 
--- src/lib.rt:132:17
 shared-slice-read-b : tie.Need-shared-slice-read-b Inv-loop μ-loop
-shared-slice-read-b c = ?
+shared-slice-read-b c = search needs
 
--- src/lib.rt:133:15
 sort-of-requires : tie.Need-sort-of-requires Inv-loop μ-loop
-sort-of-requires c κs = ?
+sort-of-requires c κs = search needs
 
--- src/lib.rt:135:17
 enum-told : tie.Need-enum-told Inv-loop μ-loop
-enum-told c = ?
+enum-told c = search needs
 
--- src/lib.rt:135:17
 grown-requires : tie.Need-grown-requires Inv-loop μ-loop
-grown-requires c κs = ?
+grown-requires c κs =
+    let t = sym (c .before .before .sort-of .ensures) ∙ c .enum-told .given .1 in
+    (omega arith, omega arith, digit-of-sort _ t)
 
--- src/lib.rt:137:17
 add-i : tie.Need-add-i Inv-loop μ-loop
-add-i c = ?
+add-i c = search needs
 
--- src/lib.rt:131:5
 loop-less : tie.Need-loop-less Inv-loop μ-loop
-loop-less c = ?
+loop-less c = search needs
 
--- src/lib.rt:131:5
 loop-again : tie.Need-loop-again Inv-loop μ-loop
-loop-again c = ?
+loop-again c =
+    let m = c .before .before .before in
+    let l = m .before .before in
+    let t = sym (m .sort-of .ensures) ∙ c .before .enum-told .given .1 in
+    (search needs, search needs, omega arith, rw (c .grown .ensures) (run-at-digit _ _ _ _ (l .loop-test .taken) t ∙ l .before .loop .inv .3))
 
--- src/lib.rt:140:20
 enum-told-2 : tie.Need-enum-told-2 Inv-loop μ-loop
-enum-told-2 c = ?
+enum-told-2 c = search needs
 
--- src/lib.rt:140:20
 closes-requires : tie.Need-closes-requires Inv-loop μ-loop
-closes-requires c κs = ?
+closes-requires c κs = search needs
 
--- src/lib.rt:141:45
 cast-t14 : tie.Need-cast-t14 Inv-loop μ-loop
-cast-t14 c = ?
+cast-t14 c = omega (arith, closes-small _ (sym (c .before .closes .ensures) ∙ c .if1 .taken))
 
--- src/lib.rt:144:21
 add-i-2 : tie.Need-add-i-2 Inv-loop μ-loop
-add-i-2 c = ?
+add-i-2 c = search needs
 
--- src/lib.rt:131:5
 loop-less-2 : tie.Need-loop-less-2 Inv-loop μ-loop
-loop-less-2 c = ?
+loop-less-2 c = search needs
 
--- src/lib.rt:131:5
 loop-again-2 : tie.Need-loop-again-2 Inv-loop μ-loop
-loop-again-2 c = ?
+loop-again-2 c =
+    let m = c .before .before .before .before in
+    let l = m .before .before in
+    let t = sym (m .sort-of .ensures) ∙ c .before .before .enum-told2 .given .1 in
+    let e = sym (c .before .closes .ensures) ∙ c .if1 .taken in
+    (search needs, search needs, search needs, run-at-slash _ _ _ _ (l .loop-test .taken) t e ∙ l .before .loop .inv .3)
 
--- src/lib.rt:146:73
 sub-t15 : tie.Need-sub-t15 Inv-loop μ-loop
-sub-t15 c = ?
+sub-t15 c = search needs
 
--- src/lib.rt:146:21
 returns : tie.Need-returns Inv-loop μ-loop
-returns c = ?
+returns c =
+    let m = c .before .before .before .before in
+    let l = m .before .before in
+    let t = sym (m .sort-of .ensures) ∙ c .before .before .enum-told2 .given .1 in
+    let e = sym (c .before .closes .ensures) ∙ c .if1 .left in
+    run-at-slash-refused _ _ _ _ (l .loop-test .taken) t e ∙ l .before .loop .inv .3
 
--- src/lib.rt:150:20
 enum-told-3 : tie.Need-enum-told-3 Inv-loop μ-loop
-enum-told-3 c = ?
+enum-told-3 c = search needs
 
--- src/lib.rt:150:20
 closes-requires-2 : tie.Need-closes-requires-2 Inv-loop μ-loop
-closes-requires-2 c κs = ?
+closes-requires-2 c κs = search needs
 
--- src/lib.rt:151:45
 cast-last-two : tie.Need-cast-last-two Inv-loop μ-loop
-cast-last-two c = ?
+cast-last-two c = omega (arith, closes-small _ (sym (c .before .closes2 .ensures) ∙ c .if2 .taken))
 
--- src/lib.rt:151:21
 last-two-requires : tie.Need-last-two-requires Inv-loop μ-loop
-last-two-requires c κs = ?
+last-two-requires c κs = search needs
 
--- src/lib.rt:151:21
 returns-2 : tie.Need-returns-2 Inv-loop μ-loop
-returns-2 c = ?
+returns-2 c =
+    let m = c .before .before .before .before .before in
+    let l = m .before .before in
+    let t = sym (m .sort-of .ensures) ∙ c .before .before .before .enum-told3 .given .1 in
+    let e = sym (c .before .before .closes2 .ensures) ∙ c .before .if2 .taken in
+    c .last-two .ensures ∙ run-at-terminator _ _ _ _ (l .loop-test .taken) t e ∙ l .before .loop .inv .3
 
--- src/lib.rt:153:73
 sub-t19 : tie.Need-sub-t19 Inv-loop μ-loop
-sub-t19 c = ?
+sub-t19 c = search needs
 
--- src/lib.rt:153:21
 returns-3 : tie.Need-returns-3 Inv-loop μ-loop
-returns-3 c = ?
+returns-3 c =
+    let m = c .before .before .before .before in
+    let l = m .before .before in
+    let t = sym (m .sort-of .ensures) ∙ c .before .before .enum-told3 .given .1 in
+    let e = sym (c .before .closes2 .ensures) ∙ c .if2 .left in
+    run-at-terminator-refused _ _ _ _ (l .loop-test .taken) t e ∙ l .before .loop .inv .3
 
--- src/lib.rt:157:42
 enum-told-4 : tie.Need-enum-told-4 Inv-loop μ-loop
-enum-told-4 c = ?
+enum-told-4 c = search needs
 
--- src/lib.rt:157:17
 returns-4 : tie.Need-returns-4 Inv-loop μ-loop
-returns-4 c = ?
+returns-4 c =
+    let m = c .before .before in
+    let l = m .before .before in
+    let t = sym (m .sort-of .ensures) ∙ c .enum-told4 .given .1 in
+    run-at-other _ _ _ _ (l .loop-test .taken) t ∙ l .before .loop .inv .3
 
--- src/lib.rt:123:1
 returns-5 : tie.Need-returns-5 Inv-loop μ-loop
-returns-5 c = ?
+returns-5 c = run-at-end _ _ _ _ (c .loop-test .left) ∙ c .before .loop .inv .3
 
 pub parse-edge-spec : {M : Type 1} → statement M
 parse-edge-spec =

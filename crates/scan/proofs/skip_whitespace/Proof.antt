@@ -1,46 +1,49 @@
+-- `scan::skip_whitespace` meets its contract. The invariant: skipping from here leads where skipping from `at` leads. The measure is what is left of the length.
+-- Assumes nothing.
+use Prim.Native.Nat.{_≤_, _-_}
+use mathlib.Core.Path.{_≡_, sym, _∙_}
+use lib.ListN.{length, drop}
+use borrow.Author.Needs.{needs}
+use Rattle.scan.specs.Spaces.{skip}
+use Rattle.scan.proofs.Spaces.{skip-at-space, skip-at-other, skip-at-end}
 use Rattle.scan.proofs.skip_whitespace.Statement.{statement}
 use Rattle.scan.proofs.skip_whitespace.Tie as tie
-use Rattle.scan.proofs.skip_whitespace.Reads as reads
-use Rattle.scan.proofs.skip_whitespace.Lts as lts
-use Rattle.scan.proofs.is_space.Reads as is-space-reads
 
 abbrev Inv-loop : tie.InvT-loop
-Inv-loop s at i₀ i = ?
+Inv-loop s at i₀ i = (i ≤ length s) × (skip (drop i s) i ≡ skip (drop at s) at) × (at ≤ i)
 
 abbrev μ-loop : tie.MeasureT-loop
-μ-loop s at i₀ i = ?
+μ-loop s at i₀ i = length s - i
 
--- src/lib.rt:27:5
 loop-holds : tie.Need-loop-holds Inv-loop μ-loop
-loop-holds c = ?
+loop-holds c = search needs
 
--- src/lib.rt:28:21
 shared-slice-read-is-space : tie.Need-shared-slice-read-is-space Inv-loop μ-loop
-shared-slice-read-is-space c = ?
+shared-slice-read-is-space c = search needs
 
--- src/lib.rt:28:12
 is-space-requires : tie.Need-is-space-requires Inv-loop μ-loop
-is-space-requires c κs = ?
+is-space-requires c κs = search needs
 
--- src/lib.rt:29:13
 add-i : tie.Need-add-i Inv-loop μ-loop
-add-i c = ?
+add-i c = search needs
 
--- src/lib.rt:27:5
 loop-less : tie.Need-loop-less Inv-loop μ-loop
-loop-less c = ?
+loop-less c = search needs
 
--- src/lib.rt:27:5
 loop-again : tie.Need-loop-again Inv-loop μ-loop
-loop-again c = ?
+loop-again c =
+    let l = c .before .before .before in
+    let e = sym (c .before .is-space .ensures) ∙ c .if1 .taken in
+    (search needs, skip-at-space _ _ (l .loop-test .taken) e ∙ l .before .loop .inv .1, search needs)
 
--- src/lib.rt:31:13
 returns : tie.Need-returns Inv-loop μ-loop
-returns c = ?
+returns c =
+    let l = c .before .before .before in
+    let e = sym (c .before .is-space .ensures) ∙ c .if1 .left in
+    (skip-at-other _ _ (l .loop-test .taken) e ∙ l .before .loop .inv .1, search needs, search needs)
 
--- src/lib.rt:22:1
 returns-2 : tie.Need-returns-2 Inv-loop μ-loop
-returns-2 c = ?
+returns-2 c = (skip-at-end _ _ (c .loop-test .left) ∙ c .before .loop .inv .1, search needs, search needs)
 
 pub skip-whitespace-spec : {M : Type 1} → statement M
 skip-whitespace-spec =
