@@ -1,3 +1,5 @@
+mod Ahead
 mod JoinLaws
 mod ReadLaws
+mod Turns
 mod TextsRight

@@ -20,6 +20,7 @@ ghost use Rattle.parse.specs.Reading.{Reading, joined, high, readFrom, a
 ghost use Rattle.parse.specs.Held.{holding};
 
 pub mod node; // node.rt: nodes and references
+pub mod builder; // builder.rt: the reader that holds the text
 
 // Edges wait here. A turn that adds one reads two bytes, so 128 places do for 255.
 pub struct Queue {
@@ -110,7 +111,7 @@ pub fn join_all(nodes: [Place; 9], count: usize, queue: Queue) -> Read
 
 // The text from `start` on: a node, then, while bytes remain, an optional edge and a node. (Nodes and queue are locals of the
 // loop and stored in place: to hand them through a function at each turn would cost more than all else.)
-pub fn read(s: &[u8], start: usize) -> Read
+pub fn read_text(s: &[u8], start: usize) -> Read
     requires { ⌜ (start ≤ length (now s)) × (length (now s) ≤ 255) ⌝ }
     ensures { λ r. ⌜ r ≡ answer (joined (textFrom (now (s .entry)) start)) ⌝ }
 {
@@ -202,7 +203,6 @@ pub fn not_ascii(s: &[u8]) -> usize
 
 // The diagram of the text from `at` on, or what refuses it.
 pub fn parse_from(s: &[u8], at: usize) -> Read
-    requires { ⌜ at ≤ length (now s) ⌝ }
     ensures { λ r. ⌜ r ≡ answer (readFrom (now (s .entry)) at) ⌝ }
 {
     if 255 < s.len() {
@@ -212,5 +212,8 @@ pub fn parse_from(s: &[u8], at: usize) -> Read
     if high < s.len() {
         return refused(CdError::NotAscii { pos: high });
     }
-    read(s, at)
+    if s.len() < at {
+        return refused(CdError::UnexpectedEnding { pos: at });
+    }
+    read_text(s, at)
 }

@@ -1,6 +1,6 @@
--- The place after an edge that was read: past where reading began, and not past the end of the text. By induction on the bytes: a run ends where it stands, or
--- goes on one byte further. Assumes nothing.
-use Prim.Native.Nat.{ℕ, _+_, _≤_, _<_}
+-- An edge that was read is one, and the place after it is past where reading began, and not past the end of the text. By induction on the bytes: a run ends
+-- where it stands, or goes on one byte further. Assumes nothing.
+use Prim.Native.Nat.{ℕ, _+_, _-_, _≤_, _<_}
 use mathlib.Core.Bool.{Bool, true, false}
 use mathlib.Core.List.{List, [], _∷_}
 use mathlib.Core.Path.{_≡_, refl}
@@ -10,6 +10,7 @@ use lib.ListN.{length, drop, length-drop}
 use Rattle.float.specs.Pick.{pick}
 use Rattle.cd.specs.Edges.{isEdge}
 use Rattle.cd.specs.declared.CdError.{CdError}
+use Rattle.cd.specs.declared.CdError.the-variants.{InvalidEdge}
 use Rattle.cd.specs.declared.Edge.{Edge}
 use Rattle.scan.specs.Bytes.{isDigit}
 use Rattle.scan.specs.Spaces.{skip}
@@ -22,18 +23,18 @@ use Rattle.scan.specs.declared.EdgeRead.{EdgeRead}
 use Rattle.scan.specs.declared.EdgeRead.the-variants.{NoEdge, Read, Refused}
 use Rattle.scan.proofs.Spaces.{skip-bounds}
 
--- if an edge was read, the place after it is from lo to hi
+-- if an edge was read, it is one, and the place after it is from lo to hi
 data Next (lo hi : ℕ) : EdgeRead → Type 0 where
   none : Next lo hi NoEdge
-  read : {e : Edge} {next : ℕ} → lo ≤ next → next ≤ hi → Next lo hi (Read e next)
+  read : {e : Edge} {next : ℕ} → isEdge (e .num) (e .den) ≡ true → lo ≤ next → next ≤ hi → Next lo hi (Read e next)
   refused : {r : CdError} → Next lo hi (Refused r)
 
-next-read : {lo hi next : ℕ} {e : Edge} → Next lo hi (Read e next) → (lo ≤ next) × (next ≤ hi)
-next-read (read p q) = (p, q)
+next-read : {lo hi next : ℕ} {e : Edge} → Next lo hi (Read e next) → (isEdge (e .num) (e .den) ≡ true) × (lo ≤ next) × (next ≤ hi)
+next-read (read v p q) = (v, p, q)
 
 next-widened : {lo hi lo′ hi′ : ℕ} {x : EdgeRead} → Next lo hi x → lo′ ≤ lo → hi ≤ hi′ → Next lo′ hi′ x
 next-widened none p q = none
-next-widened (read a b) p q = read (le-trans p a) (le-trans b q)
+next-widened (read v a b) p q = read v (le-trans p a) (le-trans b q)
 next-widened refused p q = refused
 
 next-picked : {lo hi : ℕ} {x y : EdgeRead} (t : Bool) → Next lo hi x → Next lo hi y → Next lo hi (pick t x y)
@@ -47,10 +48,14 @@ next-sorted Slash a b c d = b
 next-sorted Terminator a b c d = c
 next-sorted Other a b c d = d
 
+next-edge : (t : Bool) (num den i hi : ℕ) → isEdge num den ≡ t → i ≤ hi → Next i hi (pick t (Read (record { num = num; den = den }) i) (Refused (InvalidEdge num den (i - 1))))
+next-edge true num den i hi v h = read v (le-refl i) h
+next-edge false num den i hi v h = refused
+
 next-last-two : (before : Before) (last i hi : ℕ) → i ≤ hi → Next i hi (lastTwo before last i)
 unfolding lastTwo edge
-next-last-two Nothing last i hi h = next-picked (isEdge last 1) (read (le-refl i) h) refused
-next-last-two (Number n) last i hi h = next-picked (isEdge n last) (read (le-refl i) h) refused
+next-last-two Nothing last i hi h = next-edge (isEdge last 1) last 1 i hi refl h
+next-last-two (Number n) last i hi h = next-edge (isEdge n last) n last i hi refl h
 
 next-run : (bs : List ℕ) (i : ℕ) (before : Before) (p : Part) → Next i (i + length bs) (run bs i before p)
 unfolding run
@@ -80,3 +85,7 @@ edge-next s at e next h q =
     let k = skip-bounds (drop at s) at in
     let r = next-read (rw q at (next-optional (drop i s) i)) in
     omega (arith, length-drop at s, length-drop i s)
+
+pub edge-valid : (s : List ℕ) (at : ℕ) (e : Edge) (next : ℕ) → edgeAt s at ≡ Read e next → isEdge (e .num) (e .den) ≡ true
+unfolding edgeAt
+edge-valid s at e next q = let i = skip (drop at s) at in next-read (rw q at (next-optional (drop i s) i)) .0

@@ -1,15 +1,16 @@
+-- `length::infinity` meets its contract: antt computes the quotient. Assumes nothing.
+use lib.Ieee
+use Rattle.float.specs.Decimal.{signed}
 use Rattle.length.proofs.infinity.Statement.{statement}
 use Rattle.length.proofs.infinity.Tie as tie
-use Rattle.length.proofs.infinity.Reads as reads
-use Rattle.length.proofs.infinity.Lts as lts
 
--- src/lib.rt:201:1
 returns : tie.Need-returns
-returns c = ?
+unfolding Ieee.div Ieee.ofBits Ieee.ofFields signed
+returns c = rw (c .if1 .taken)
 
--- src/lib.rt:201:1
 returns-2 : tie.Need-returns-2
-returns-2 c = ?
+unfolding Ieee.div Ieee.ofBits Ieee.ofFields signed
+returns-2 c = rw (c .if1 .left)
 
 pub infinity-spec : {M : Type 1} → statement M
 infinity-spec = tie.close (tie.spec returns returns-2)

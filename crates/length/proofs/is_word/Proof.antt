@@ -1,58 +1,55 @@
+-- `length::is_word` meets its contract. The invariant: what is left compares as the whole does. The measure is what is left of the word. Assumes nothing.
+use Prim.Native.Nat.{_≤_, _-_}
+use mathlib.Core.Path.{_≡_, sym, _∙_}
+use lib.ListN.{length, drop}
+use borrow.Author.Needs.{needs}
+use Rattle.length.specs.Literals.{isWord}
+use Rattle.length.proofs.Words.{word-alike, word-unlike, word-past-text, word-past-word}
 use Rattle.length.proofs.is_word.Statement.{statement}
 use Rattle.length.proofs.is_word.Tie as tie
-use Rattle.length.proofs.is_word.Reads as reads
-use Rattle.length.proofs.is_word.Lts as lts
-use Rattle.length.proofs.fold.Reads as fold-reads
 
 abbrev Inv-loop : tie.InvT-loop
-Inv-loop t at word i₀ j₀ i j = ?
+Inv-loop t at word i₀ j₀ i j = (i ≤ length t) × (j ≤ length word) × (isWord (drop i t) (drop j word) ≡ isWord (drop at t) word)
 
 abbrev μ-loop : tie.MeasureT-loop
-μ-loop t at word i₀ j₀ i j = ?
+μ-loop t at word i₀ j₀ i j = length word - j
 
--- src/lib.rt:60:5
 loop-holds : tie.Need-loop-holds Inv-loop μ-loop
-loop-holds c = ?
+loop-holds c = search needs
 
--- src/lib.rt:62:21
 shared-slice-read-fold : tie.Need-shared-slice-read-fold Inv-loop μ-loop
-shared-slice-read-fold c = ?
+shared-slice-read-fold c = search needs
 
--- src/lib.rt:62:16
 fold-requires : tie.Need-fold-requires Inv-loop μ-loop
-fold-requires c κs = ?
+fold-requires c κs = search needs
 
--- src/lib.rt:62:30
 shared-slice-read-if2 : tie.Need-shared-slice-read-if2 Inv-loop μ-loop
-shared-slice-read-if2 c = ?
+shared-slice-read-if2 c = search needs
 
--- src/lib.rt:63:17
 add-i : tie.Need-add-i Inv-loop μ-loop
-add-i c = ?
+add-i c = search needs
 
--- src/lib.rt:64:17
 add-j : tie.Need-add-j Inv-loop μ-loop
-add-j c = ?
+add-j c = search needs
 
--- src/lib.rt:60:5
 loop-less : tie.Need-loop-less Inv-loop μ-loop
-loop-less c = ?
+loop-less c = search needs
 
--- src/lib.rt:60:5
 loop-again : tie.Need-loop-again Inv-loop μ-loop
-loop-again c = ?
+loop-again c =
+    let w = c .before .before .before .before in
+    (search needs, search needs, word-alike _ _ _ _ (w .if1 .taken) (w .before .loop-test .taken) (sym (c .before .before .fold .ensures) ∙ c .if2 .taken) ∙ w .before .before .loop .inv .2)
 
--- src/lib.rt:66:17
 returns : tie.Need-returns Inv-loop μ-loop
-returns c = ?
+returns c =
+    let w = c .before .before .before .before in
+    word-unlike _ _ _ _ (w .if1 .taken) (w .before .loop-test .taken) (λ e. c .if2 .left (c .before .before .fold .ensures ∙ e)) ∙ w .before .before .loop .inv .2
 
--- src/lib.rt:69:13
 returns-2 : tie.Need-returns-2 Inv-loop μ-loop
-returns-2 c = ?
+returns-2 c = word-past-text _ _ _ _ (c .if1 .left) (c .before .loop-test .taken) ∙ c .before .before .loop .inv .2
 
--- src/lib.rt:54:1
 returns-3 : tie.Need-returns-3 Inv-loop μ-loop
-returns-3 c = ?
+returns-3 c = word-past-word _ _ _ _ (c .before .loop .inv .0) (c .loop-test .left) ∙ c .before .loop .inv .2
 
 pub is-word-spec : {M : Type 1} → statement M
 is-word-spec =

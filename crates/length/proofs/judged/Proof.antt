@@ -1,50 +1,56 @@
+-- `length::judged` meets its contract: the tests are the definition's, in its order; past them the digits and the power of ten decide. Assumes nothing.
+use mathlib.Core.Path.{_≡_, sym, ap, _∙_}
 use borrow.Author.Needs.{needs}
+use borrow.Author.Tests.{eq-eqb, ne-eqb, lt-ltb, le-ltb}
+use mir.Facts.{toZ-ofZ}
+use mir.Syntax.{w64}
+use Rattle.length.specs.Literals.{judged, lengthOf}
 use Rattle.length.proofs.judged.Statement.{statement}
 use Rattle.length.proofs.judged.Tie as tie
-use Rattle.length.proofs.judged.Reads as reads
-use Rattle.length.proofs.judged.Lts as lts
-use Rattle.float.proofs.decimal.decimal.Reads as decimal-reads
-use Rattle.length.proofs.power.Reads as power-reads
 
--- src/lib.rt:163:9
 returns : tie.Need-returns
-returns c = ?
+unfolding judged
+returns c = simp (eq-eqb _ 0 (c .if1 .taken))
 
--- src/lib.rt:166:9
 returns-2 : tie.Need-returns-2
-returns-2 c = ?
+unfolding judged
+returns-2 c = simp (ne-eqb _ 0 (c .before .before .if1 .left), c .if2 .taken)
 
--- src/lib.rt:169:9
 returns-3 : tie.Need-returns-3
-returns-3 c = ?
+unfolding judged
+returns-3 c = simp (ne-eqb _ 0 (c .before .before .before .if1 .left), c .before .if2 .left, lt-ltb _ _ (c .if3 .taken))
 
--- src/lib.rt:172:9
 returns-4 : tie.Need-returns-4
-returns-4 c = ?
+unfolding judged
+returns-4 c = simp (ne-eqb _ 0 (c .before .before .before .before .before .if1 .left), c .before .before .before .if2 .left, le-ltb _ _ (c .before .before .if3 .left), lt-ltb _ _ (c .if4 .taken))
 
--- src/lib.rt:174:9
 power-requires : tie.Need-power-requires
 power-requires c κs = search needs
 
--- src/lib.rt:175:11
 decimal-requires : tie.Need-decimal-requires
 decimal-requires c κs = search needs
 
--- src/lib.rt:176:24
 enum-known-v : tie.Need-enum-known-v
 enum-known-v c = search needs
 
--- src/lib.rt:177:32
 enum-told : tie.Need-enum-told
 enum-told c = search needs
 
--- src/lib.rt:158:1
-returns-5 : tie.Need-returns-5
-returns-5 c = ?
+decided : (c : tie.After-decimal) → let a = c .before .before .before .before .before .before .before .before .args in lengthOf (c .decimal .result) ≡ judged (a .minus) (a .n) (a .w) (a .f) (a .x)
+unfolding judged
+decided c =
+    let g = c .before .before in
+    let b = g .before .before .before in
+    simp (ne-eqb _ 0 (b .before .before .if1 .left), b .if2 .left, le-ltb _ _ (g .before .before .if3 .left), le-ltb _ _ (g .if4 .left))
+    (ap lengthOf (rw (toZ-ofZ {w = w64} (record { sfits = c .before .power .ok }), c .before .power .ensures) at (c .decimal .ensures)))
 
--- src/lib.rt:158:1
+returns-5 : tie.Need-returns-5
+unfolding lengthOf
+returns-5 c = sym (ap lengthOf (c .before .v .given .1)) ∙ decided (c .before .before .before)
+
 returns-6 : tie.Need-returns-6
-returns-6 c = ?
+unfolding lengthOf
+returns-6 c = sym (ap lengthOf (c .enum-told .given .1)) ∙ decided (c .before .before)
 
 pub judged-spec : {M : Type 1} → statement M
 judged-spec =

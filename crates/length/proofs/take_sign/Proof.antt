@@ -1,36 +1,29 @@
+-- `length::take_sign` meets its contract: a law for each byte that can stand there, and for none. Assumes nothing.
 use borrow.Author.Needs.{needs}
+use Rattle.length.proofs.Signs.{sign-at-plus, sign-at-minus, sign-at-other, sign-at-end}
 use Rattle.length.proofs.take_sign.Statement.{statement}
 use Rattle.length.proofs.take_sign.Tie as tie
-use Rattle.length.proofs.take_sign.Reads as reads
-use Rattle.length.proofs.take_sign.Lts as lts
 
--- src/lib.rt:86:17
 shared-slice-read-b : tie.Need-shared-slice-read-b
 shared-slice-read-b c = search needs
 
--- src/lib.rt:90:23
 add-t9 : tie.Need-add-t9
 add-t9 c = search needs
 
--- src/lib.rt:88:13
 returns : tie.Need-returns
-returns c = ?
+returns c = sign-at-plus _ _ (c .before .before .if1 .taken) (c .if2 .taken)
 
--- src/lib.rt:96:23
 add-t10 : tie.Need-add-t10
 add-t10 c = search needs
 
--- src/lib.rt:94:13
 returns-2 : tie.Need-returns-2
-returns-2 c = ?
+returns-2 c = sign-at-minus _ _ (c .before .before .before .if1 .taken) (c .before .if2 .left) (c .if3 .taken)
 
--- src/lib.rt:81:1
 returns-3 : tie.Need-returns-3
-returns-3 c = ?
+returns-3 c = sign-at-other _ _ (c .before .before .before .if1 .taken) (c .before .if2 .left) (c .if3 .left)
 
--- src/lib.rt:81:1
 returns-4 : tie.Need-returns-4
-returns-4 c = ?
+returns-4 c = sign-at-end _ _ (c .before .pre) (c .if1 .left)
 
 pub take-sign-spec : {M : Type 1} → statement M
 take-sign-spec =

@@ -1,0 +1,298 @@
+-- The loop that reads a text, in the terms of its locals: what is read from here on gives what the whole text gives (`Kept` before a node, `After` behind
+-- one). Each turn reads a byte, so the turns allowed, at first the length of the text, never run out. Assumes nothing.
+use Prim.Native.Nat.{ℕ, zero, suc, _+_, _*_, _≤_, _<_}
+use mathlib.Core.Bool.{Bool, true, false, not, _&&_, true≢false}
+use mathlib.Core.List.{List, [], _∷_, _++_, map, map-append}
+use mathlib.Core.Path.{_≡_, refl, sym, ap, _∙_}
+use native.Mathlib.Numerals.{add-one}
+use native.Mathlib.Omega.{arith}
+use borrow.Author.Tests.{lt-ltb, le-ltb, le-leb, lt-leb, ltb-true}
+use lib.Dec.{ltb, leb, eqb}
+use lib.ListN.{length, getD, take, drop, set, replicate, length-map, length-set}
+use lib.Seq.{length-take-le, take-suc-set}
+use Rattle.float.specs.Pick.{pick}
+use Rattle.cd.specs.Arrays.{padded, triangle}
+use Rattle.cd.specs.Diagrams.{between, limit, place, cdOf}
+use Rattle.cd.specs.Edges.{isEdge}
+use Rattle.cd.specs.declared.CdError.{CdError}
+use Rattle.cd.specs.declared.CdError.the-variants.{TooManyNodes}
+use Rattle.cd.specs.declared.Edge.{Edge}
+use Rattle.cd.specs.declared.EdgeRef.{EdgeRef}
+use Rattle.cd.specs.declared.Node.{Node}
+use Rattle.cd.specs.declared.Node.the-variants.{Unringed}
+use Rattle.cd.specs.declared.NodeRef.{NodeRef}
+use Rattle.cd.specs.declared.NodeRef.the-variants.{Absolute}
+use Rattle.cd.specs.declared.Place.{Place}
+use Rattle.cd.proofs.Arrays.{length-padded, set-padded}
+use Rattle.scan.specs.Spaces.{skip}
+use Rattle.scan.specs.Edges.{edgeAt}
+use Rattle.scan.specs.declared.EdgeRead.{EdgeRead}
+use Rattle.scan.specs.declared.EdgeRead.the-variants as edge
+use Rattle.scan.proofs.Places.{edge-next, edge-valid}
+use Rattle.parse.specs.Nodes.{nodeAt}
+use Rattle.parse.specs.Text.{Seen, Outcome, On, Refused, onto, Joint, Without, With, queued, taken, nodeIn, afterEdge, turn, turns, textFrom}
+use Rattle.parse.proofs.Ahead.{node-ahead, reference-ahead}
+use Rattle.parse.specs.Joining.{Joined}
+use Rattle.parse.specs.Joining as joining
+use Rattle.parse.specs.Reading.{answer, withEdges}
+use Rattle.parse.specs.Held.{holding}
+use Rattle.parse.specs.declared.Answer.the-variants.{Accepted}
+use Rattle.parse.specs.declared.Read.{Read}
+use Rattle.parse.specs.declared.Queue.{Queue}
+use Rattle.parse.specs.declared.node.NodeRead.{NodeRead}
+use Rattle.parse.specs.declared.node.NodeRead.the-variants as node
+
+-- ---- what the locals stand for
+
+abbrev pub held : List Place → ℕ → List Node
+held nodes count = map (λ (p : Place). p .node) (take count nodes)
+
+abbrev pub waits : Queue → List EdgeRef
+waits q = take (q .count) (q .at)
+
+abbrev pub seen : List Place → ℕ → Queue → NodeRef → Seen
+seen nodes count q prev = record { nodes = held nodes count; queue = waits q; prev = prev }
+
+-- an edge whose num is 0 is none
+unfoldable pub joint : Edge → Joint
+joint e = pick (ltb 0 (e .num)) (With e) Without
+
+-- ---- before a node
+
+pub record Kept (s : List ℕ) (start : ℕ) (nodes : List Place) (count : ℕ) (q : Queue) (at : ℕ) (prev : NodeRef) (e : Edge) : Type 0 where
+  pub places : nodes ≡ padded (place Unringed) limit (take count nodes)
+  pub few : count ≤ limit
+  pub slots : length (q .at) ≡ 128
+  pub room : 2 * q .count ≤ at
+  pub spare : 0 < e .num → 2 * q .count + 1 ≤ at
+  pub upto : at ≤ length s
+  pub left : ℕ
+  pub enough : length s ≤ left + at
+  pub going : onto (nodeIn s at (joint e) (seen nodes count q prev)) (turns left s) ≡ textFrom s start
+
+pub kept-start : (s : List ℕ) (start : ℕ) (nodes : List Place) (slots : List EdgeRef) → start ≤ length s → nodes ≡ padded (place Unringed) limit [] → length slots ≡ 128
+    → Kept s start nodes 0 (record { at = slots; count = 0 }) start (Absolute 0) (record { num = 0; den = 0 })
+unfolding textFrom joint
+kept-start s start nodes slots h p l =
+    record { places = p; few = omega arith; slots = l; room = omega arith; spare = λ (z : 0 < 0). omega arith; upto = h; left = length s; enough = omega arith; going = refl }
+
+-- ---- a node or a reference was read, and a node was stored
+
+pub record Found (s : List ℕ) (start at : ℕ) (st : Seen) (e : Edge) (nodes : List Place) (count : ℕ) (this : NodeRef) (next : ℕ) : Type 0 where
+  pub places : nodes ≡ padded (place Unringed) limit (take count nodes)
+  pub few : count ≤ limit
+  pub ahead : at < next
+  pub upto : next ≤ length s
+  pub left : ℕ
+  pub enough : length s < left + next
+  pub turned : turns left s next (record { nodes = held nodes count; queue = queued (joint e) st this; prev = this }) ≡ textFrom s start
+
+-- a list in the first places of an array, and one element more
+take-set : {A : Type 0} (l : List A) (c : ℕ) (v : A) → c < length l → take (c + 1) (set l c v) ≡ take c l ++ (v ∷ [])
+take-set l c v h = rw add-one (take-suc-set l c v h)
+
+module _ (nodes : List Place) (count : ℕ) (places : nodes ≡ padded (place Unringed) limit (take count nodes)) where
+  nodes-long : length nodes ≡ limit
+  nodes-long = ap length places ∙ length-padded (place Unringed) limit (take count nodes)
+
+  module _ (few : count ≤ limit) where
+    taken-long : length (take count nodes) ≡ count
+    taken-long = length-take-le count nodes (omega (arith, nodes-long))
+
+    pub held-long : length (held nodes count) ≡ count
+    held-long = length-map (take count nodes) (λ (p : Place). p .node) ∙ taken-long
+
+  module _ (n : Node) (free : count < limit) where
+    held-more : held (set nodes count (place n)) (count + 1) ≡ held nodes count ++ (n ∷ [])
+    held-more = ap (map (λ (p : Place). p .node)) (take-set nodes count (place n) (omega (arith, nodes-long))) ∙ map-append (λ (p : Place). p .node) (take count nodes) (place n ∷ [])
+
+    places-more : set nodes count (place n) ≡ padded (place Unringed) limit (take (count + 1) (set nodes count (place n)))
+    places-more =
+        let l : length (take count nodes) ≡ count = taken-long (omega arith) in
+        ap (λ (x : List Place). set x count (place n)) places
+        ∙ ap (λ (c : ℕ). set (padded (place Unringed) limit (take count nodes)) c (place n)) (sym l)
+        ∙ set-padded (place Unringed) (place n) limit (take count nodes) (omega arith)
+        ∙ ap (padded (place Unringed) limit) (sym (take-set nodes count (place n) (omega (arith, nodes-long))))
+
+node-is : (s : List ℕ) (at i : ℕ) (j : Joint) (st : Seen) (x : NodeRead) → i ≡ skip (drop at s) at → x ≡ nodeAt (drop i s) i → nodeIn s at j st ≡ taken x i j st
+unfolding nodeIn
+node-is s at i j st x h k = rw (← h, ← k)
+
+module _ {s : List ℕ} {start : ℕ} {nodes : List Place} {count : ℕ} {q : Queue} {at : ℕ} {prev : NodeRef} {e : Edge} (k : Kept s start nodes count q at prev e)
+    (i : ℕ) (x : NodeRead) (skipped : i ≡ skip (drop at s) at) (after : at ≤ i) (inside : i ≤ length s) (read : x ≡ nodeAt (drop i s) i) where
+  abbrev st : Seen
+  st = seen nodes count q prev
+
+  reading : onto (taken x i (joint e) st) (turns (k .left) s) ≡ textFrom s start
+  reading = rw (node-is s at i (joint e) st x skipped read) at (k .going)
+
+  pub node-refused : (r : CdError) → x ≡ node.Refused r → textFrom s start ≡ Refused r
+  unfolding taken
+  node-refused r h = sym (rw h at reading)
+
+  pub node-tenth : (n : Node) (next : ℕ) → x ≡ node.Added n next → limit ≤ count → textFrom s start ≡ Refused (TooManyNodes i)
+  unfolding taken
+  node-tenth n next h f = sym (rw (h, held-long nodes count (k .places) (k .few), le-leb limit count f) at reading)
+
+  pub found-reference : (this : NodeRef) (next : ℕ) → x ≡ node.Referred this next → Found s start at st e nodes count this next
+  unfolding taken
+  found-reference this next h =
+      let a = reference-ahead s i this next inside (sym read ∙ h) in
+      record { places = k .places; few = k .few; ahead = omega (arith, a); upto = a .1; left = k .left; enough = omega (arith, a, k .enough); turned = rw h at reading }
+
+  pub found-node : (n : Node) (next : ℕ) → x ≡ node.Added n next → count < limit → Found s start at st e (set nodes count (place n)) (count + 1) (Absolute count) next
+  unfolding taken
+  found-node n next h f =
+      let a = node-ahead s i n next inside (sym read ∙ h) in
+      record {
+        places = places-more nodes count (k .places) n f;
+        few = omega arith;
+        ahead = omega (arith, a);
+        upto = a .1;
+        left = k .left;
+        enough = omega (arith, a, k .enough);
+        turned = rw (held-more nodes count (k .places) n f) (rw (h, held-long nodes count (k .places) (k .few), lt-leb limit count f) at reading);
+      }
+
+-- ---- behind a node: the edge that was read before it, if there was one, waits
+
+pub record After (s : List ℕ) (start at : ℕ) (nodes : List Place) (count : ℕ) (q : Queue) (prev : NodeRef) (next : ℕ) : Type 0 where
+  pub places : nodes ≡ padded (place Unringed) limit (take count nodes)
+  pub few : count ≤ limit
+  pub slots : length (q .at) ≡ 128
+  pub room : 2 * q .count ≤ next
+  pub ahead : at < next
+  pub upto : next ≤ length s
+  pub left : ℕ
+  pub enough : length s < left + next
+  pub turned : turns left s next (seen nodes count q prev) ≡ textFrom s start
+
+module _ {s : List ℕ} {start : ℕ} {nodes : List Place} {count : ℕ} {q : Queue} {at : ℕ} {prev : NodeRef} {e : Edge} (k : Kept s start nodes count q at prev e)
+    {nodes′ : List Place} {count′ : ℕ} {this : NodeRef} {next : ℕ} (f : Found s start at (seen nodes count q prev) e nodes′ count′ this next) where
+  pub edge-waits : 0 < e .num → q .count < 128 → After s start at nodes′ count′ (record { at = set (q .at) (q .count) (record { first = prev; other = this; edge = e }); count = q .count + 1 }) this next
+  unfolding joint queued
+  edge-waits h b =
+      let w : EdgeRef = record { first = prev; other = this; edge = e } in
+      record {
+        places = f .places;
+        few = f .few;
+        slots = length-set (q .at) (q .count) w ∙ k .slots;
+        room = omega (arith, k .spare h, f .ahead);
+        ahead = f .ahead;
+        upto = f .upto;
+        left = f .left;
+        enough = f .enough;
+        turned = rw (take-set (q .at) (q .count) w (omega (arith, k .slots))) (rw (lt-ltb 0 (e .num) h) at (f .turned));
+      }
+
+  pub none-waits : e .num ≤ 0 → After s start at nodes′ count′ q this next
+  unfolding joint queued
+  none-waits h =
+      record {
+        places = f .places;
+        few = f .few;
+        slots = k .slots;
+        room = omega (arith, k .room, f .ahead);
+        ahead = f .ahead;
+        upto = f .upto;
+        left = f .left;
+        enough = f .enough;
+        turned = rw (le-ltb 0 (e .num) h) at (f .turned);
+      }
+
+-- an edge's num is above 0
+positive : (e : Edge) → isEdge (e .num) (e .den) ≡ true → 0 < e .num
+unfolding isEdge
+positive e h = above (ltb 1 (e .num)) refl h
+  where
+    above : (t : Bool) → ltb 1 (e .num) ≡ t → t && (not (eqb (e .den) 0) && ltb (e .den) (e .num)) ≡ true → 0 < e .num
+    above true p q = let l = ltb-true 1 (e .num) p in omega arith
+    above false p q = absurd (true≢false (sym q))
+
+-- ---- the end, or another turn
+
+over : (n : ℕ) (s : List ℕ) (at : ℕ) (st : Seen) → length s ≤ at → turns n s at st ≡ On at st
+unfolding turns
+over zero s at st h = refl
+over (suc n) s at st h = rw (le-ltb at (length s) h)
+
+-- a turn is left while bytes remain
+pub record More (n : ℕ) (s : List ℕ) (at : ℕ) (st : Seen) : Type 0 where
+  pub less : ℕ
+  pub one : n ≡ suc less
+  pub is : turns n s at st ≡ onto (turn s at st) (turns less s)
+
+more : (n : ℕ) (s : List ℕ) (at : ℕ) (st : Seen) → at < length s → length s < n + at → More n s at st
+unfolding turns
+more zero s at st h l = let z : ⊥ = omega arith in absurd z
+more (suc n) s at st h l = record { less = n; one = refl; is = rw (lt-ltb at (length s) h) }
+
+module _ {s : List ℕ} {start at : ℕ} {nodes : List Place} {count : ℕ} {q : Queue} {prev : NodeRef} {next : ℕ} (a : After s start at nodes count q prev next) where
+  abbrev read-so-far : Seen
+  read-so-far = seen nodes count q prev
+
+  pub whole : length s ≤ next → textFrom s start ≡ On next read-so-far
+  whole h = sym (a .turned) ∙ over (a .left) s next read-so-far h
+
+  m : next < length s → More (a .left) s next read-so-far
+  m inside = more (a .left) s next read-so-far inside (a .enough)
+
+  module _ (inside : next < length s) (x : EdgeRead) (read : x ≡ edgeAt s next) where
+    turning : onto (afterEdge x s next read-so-far) (turns (m inside .less) s) ≡ textFrom s start
+    unfolding turn
+    turning = ap (λ (y : EdgeRead). onto (afterEdge y s next read-so-far) (turns (m inside .less) s)) read ∙ sym (m inside .is) ∙ a .turned
+
+    pub edge-refused : (r : CdError) → x ≡ edge.Refused r → textFrom s start ≡ Refused r
+    unfolding afterEdge
+    edge-refused r h = sym (rw h at turning)
+
+    pub no-edge : x ≡ edge.NoEdge → Kept s start nodes count q next prev (record { num = 0; den = 0 })
+    unfolding afterEdge joint
+    no-edge h =
+        record {
+          places = a .places;
+          few = a .few;
+          slots = a .slots;
+          room = a .room;
+          spare = λ (z : 0 < 0). omega arith;
+          upto = a .upto;
+          left = m inside .less;
+          enough = omega (arith, m inside .one, a .enough);
+          going = rw h at turning;
+        }
+
+    pub an-edge : (e : Edge) (to : ℕ) → x ≡ edge.Read e to → Kept s start nodes count q to prev e × (next < to)
+    unfolding afterEdge joint
+    an-edge e to h =
+        let b = edge-next s next e to (a .upto) (sym read ∙ h) in
+        let v = positive e (edge-valid s next e to (sym read ∙ h)) in (
+          record {
+            places = a .places;
+            few = a .few;
+            slots = a .slots;
+            room = omega (arith, a .room, b);
+            spare = λ (z : 0 < e .num). omega (arith, a .room, b);
+            upto = b .1;
+            left = m inside .less;
+            enough = omega (arith, m inside .one, a .enough, b);
+            going = rw (lt-ltb 0 (e .num) v) (rw h at turning);
+          },
+          b .0,
+        )
+
+-- ---- the answer
+
+same-places : (l : List Place) → map place (map (λ (p : Place). p .node) l) ≡ l
+same-places [] = refl
+same-places (p ∷ l) = ap (λ (m : List Place). p ∷ m) (same-places l)
+
+-- nodes in their places, and the edges stored, are the diagram
+pub holding-answer : (nodes : List Place) (count : ℕ) (j : Joined) → nodes ≡ padded (place Unringed) limit (take count nodes) → count ≤ limit
+    → holding nodes count j ≡ answer (withEdges (held nodes count) j)
+unfolding holding answer withEdges cdOf
+holding-answer nodes count (joining.Edges es) p h =
+    let e : nodes ≡ padded (place Unringed) limit (map place (held nodes count)) = p ∙ ap (padded (place Unringed) limit) (sym (same-places (take count nodes))) in
+    let f = held-long nodes count p h in
+    ap (λ (l : List Place). record { answer = Accepted; cd = record { nodes = l; count = count; pairs = triangle (between 1 es) limit; edges = length es } }) e
+    ∙ ap (λ (c : ℕ). record { answer = Accepted; cd = record { nodes = padded (place Unringed) limit (map place (held nodes count)); count = c; pairs = triangle (between 1 es) limit; edges = length es } }) (sym f)
+holding-answer nodes count (joining.Refused r) p h = refl
