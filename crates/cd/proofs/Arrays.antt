@@ -1,7 +1,8 @@
 -- Lists laid out in arrays. `padded` goes by recursion on its list. The rows of a triangle before row n hold n × (n + 1) / 2 places, so the place
--- b × (b + 1) / 2 + a with a ≤ b is place a of row b, which a load or a store reaches past the rows before it. Assumes nothing.
+-- b × (b + 1) / 2 + a with a ≤ b is place a of row b, which a load or a store reaches past the rows before it. A loop that fills an array, or replaces each of
+-- its elements, has done so to the first k. Assumes nothing.
 use Prim.Native.Nat.{ℕ, zero, suc, _+_, _*_, _/_, _≤_, _<_}
-use mathlib.Core.List.{List, [], _∷_, _++_}
+use mathlib.Core.List.{List, [], _∷_, _++_, map}
 use mathlib.Core.Logic.{_⊎_, inl, inr, ⊎-elim}
 use mathlib.Core.Path.{_≡_, refl, sym, ap, _∙_}
 use native.Mathlib.Decide.{decLt}
@@ -9,10 +10,44 @@ use native.Mathlib.Nat.{zero-add, suc-add, le-of-suc-le-suc, not-suc-le-zero, eq
 use native.Mathlib.Numerals.{add-one}
 use native.Mathlib.Omega.{arith}
 use borrow.Author.Tests.{lt-ltb, le-ltb}
-use lib.ListN.{length, getD, set, replicate, length-append, List·getD-append, replicate-append-replicate}
-use lib.Seq.{getD-append-add, set-append-left, getD-at, set-at}
+use lib.ListN.{length, getD, take, drop, set, replicate, length-append, length-map, List·getD-append, List·getD-map, replicate-append-replicate}
+use lib.Seq.{take-all, take-suc, take-suc-set, getD-append-add, set-append-left, getD-at, set-at}
 use Rattle.cd.specs.Arrays.{padded, row, triangle}
 use Rattle.cd.specs.Diagrams.{placeOf}
+
+-- the length of an array of structs, which is known by its elements' images
+pub length-of-image : (X Y : Type 0) (f : X → Y) (xs : List X) (n : ℕ) → length (map f xs) ≡ n → length xs ≡ n
+length-of-image X Y f xs n e = sym (length-map xs f) ∙ e
+
+-- ---- an array that is filled from the front with f of each element of a list
+
+module _ {A B : Type 0} (f : A → B) (xs : List A) (ys : List B) (k : ℕ) (so-far : take k ys ≡ take k (map f xs)) where
+  pub filled-next : (d : A) → k < length xs → k < length ys → take (k + 1) (set ys k (f (getD xs k d))) ≡ take (k + 1) (map f xs)
+  filled-next d p q =
+      rw (add-one, take-suc-set ys k _ q, take-suc (map f xs) k (f d) (omega (arith, length-map xs f)), List·getD-map f xs k d, so-far)
+
+  pub filled-all : length xs ≤ k → length ys ≤ k → ys ≡ map f xs
+  filled-all p q = sym (take-all k ys q) ∙ so-far ∙ take-all k (map f xs) (omega (arith, length-map xs f))
+
+-- ---- an array whose elements are replaced from the front, each by f of it
+
+module _ {A : Type 0} (f : A → A) where
+  abbrev pub replaced : ℕ → List A → List A
+  replaced k xs = map f (take k xs) ++ drop k xs
+
+  replaced-suc : (d : A) (k : ℕ) (xs : List A) → k < length xs → set (replaced k xs) k (f (getD (replaced k xs) k d)) ≡ replaced (suc k) xs
+  replaced-suc d k [] h = absurd (not-suc-le-zero h)
+  replaced-suc d zero (x ∷ xs) h = refl
+  replaced-suc d (suc k) (x ∷ xs) h = rw (replaced-suc d k xs (le-of-suc-le-suc h))
+
+  pub replaced-next : (d : A) (k : ℕ) (xs : List A) → k < length xs → set (replaced k xs) k (f (getD (replaced k xs) k d)) ≡ replaced (k + 1) xs
+  replaced-next d k xs h = replaced-suc d k xs h ∙ rw (← add-one k)
+
+  pub getD-replaced : (d : A) (k : ℕ) (xs : List A) (i : ℕ) → i < k → i < length xs → getD (replaced k xs) i d ≡ f (getD xs i d)
+  getD-replaced d k [] i h l = absurd (not-suc-le-zero l)
+  getD-replaced d zero (x ∷ xs) i h l = absurd (not-suc-le-zero h)
+  getD-replaced d (suc k) (x ∷ xs) zero h l = refl
+  getD-replaced d (suc k) (x ∷ xs) (suc i) h l = getD-replaced d k xs i (le-of-suc-le-suc h) (le-of-suc-le-suc l)
 
 -- ---- padded
 
@@ -71,6 +106,17 @@ place-rising a b h = rw (lt-ltb a b h)
 pub place-falling : (a b : ℕ) → b ≤ a → placeOf a b ≡ a * (a + 1) / 2 + b
 unfolding placeOf
 place-falling a b h = rw (le-ltb a b h)
+
+pub place-symmetric : (a b : ℕ) → placeOf a b ≡ placeOf b a
+place-symmetric a b =
+    elim (decLt a b) [
+      | yes l ↦ place-rising a b l ∙ sym (place-falling b a (omega arith))
+      | no l ↦
+          elim (decLt b a) [
+            | yes m ↦ place-falling a b (omega arith) ∙ sym (place-rising b a m)
+            | no m ↦ let same : a ≡ b = omega arith in rw same
+          ]
+    ]
 
 -- ---- triangle: its length, and one that holds one value everywhere
 

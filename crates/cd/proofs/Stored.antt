@@ -1,21 +1,25 @@
 -- An edge that is stored after the others changes what joins its own two nodes, if nothing did, and no other pair: so the array of all pairs
--- changes in that pair's place alone. Assumes nothing.
+-- changes in that pair's place alone. A pair has a rank exactly where a stored edge joins it. Assumes nothing.
 use Prim.Native.Nat.{ℕ, suc, _+_, _<_}
 use mathlib.Core.Bool.{Bool, true, false, _&&_, _||_, or-comm}
-use mathlib.Core.List.{List, [], _∷_, _++_}
+use mathlib.Core.List.{List, [], _∷_, _++_, map}
 use mathlib.Core.Logic.{inl, inr, ⊎-elim}
 use mathlib.Core.Path.{_≡_, refl, ap, _∙_}
 use native.Mathlib.Nat.{add-comm, add-zero, not-suc-le-zero}
 use native.Mathlib.Omega.{arith}
 use borrow.Author.Tests.{eqb-true, eq-eqb, lt-ltb}
 use lib.Dec.{eqb, ltb}
-use lib.ListN.{length, getD, set, replicate}
+use lib.ListN.{length, getD, set, replicate, List·getD-map}
 use Rattle.float.specs.Pick.{pick}
-use Rattle.cd.specs.Arrays.{triangle}
-use Rattle.cd.specs.Diagrams.{Stored, joins, isJoined, none, between, limit, placeOf}
+use Rattle.cd.specs.Arrays.{padded, triangle}
+use Rattle.cd.specs.Diagrams.{Stored, joins, isJoined, none, between, limit, placeOf, place, cdOf}
+use Rattle.cd.specs.declared.Cd.{Cd}
 use Rattle.cd.specs.declared.Edge.{Edge}
+use Rattle.cd.specs.declared.Node.{Node}
+use Rattle.cd.specs.declared.Node.the-variants.{Unringed}
 use Rattle.cd.specs.declared.Pair.{Pair}
-use Rattle.cd.proofs.Arrays.{Same, getD-triangle, set-triangle, triangle-blank}
+use Rattle.cd.specs.declared.Place.{Place}
+use Rattle.cd.proofs.Arrays.{Same, getD-padded, getD-triangle, set-triangle, triangle-blank}
 
 -- ---- joins
 
@@ -85,6 +89,18 @@ between-kept k [] s i j h = absurd (not-suc-le-zero h)
 between-kept k (e ∷ es) s i j h =
     kept (joins i j e) (record { rank = k; edge = e .edge }) (between (k + 1) es i j) (between (k + 1) (es ++ (s ∷ [])) i j) h (between-kept (k + 1) es s i j)
 
+-- ---- whether an edge is stored
+
+-- of two, one with a rank: the one picked has a rank where that one is picked, or the other has
+rank-picked : (t : Bool) (p q : Pair) → 0 < p .rank → ltb 0 (pick t p q .rank) ≡ t || ltb 0 (q .rank)
+rank-picked true p q l = lt-ltb 0 (p .rank) l
+rank-picked false p q l = refl
+
+pub rank-joined : (k : ℕ) (es : List Stored) (i j : ℕ) → 0 < k → ltb 0 (between k es i j .rank) ≡ isJoined es i j
+unfolding between isJoined
+rank-joined k [] i j l = refl
+rank-joined k (s ∷ es) i j l = rank-picked (joins i j s) (record { rank = k; edge = s .edge }) (between (k + 1) es i j) l ∙ rw (rank-joined (k + 1) es i j (omega arith))
+
 -- ---- the array of all pairs
 
 pub nothing-stored : triangle (between 1 []) limit ≡ replicate 45 none
@@ -102,12 +118,20 @@ module _ (es : List Stored) (a b : ℕ) where
       (λ i j l m. between-append 1 es s i j (ap (λ (x : Pair). x .rank) (between-same 1 es a b i j m) ∙ h) (omega arith) ∙ rw (joins-same i j s m, add-comm 1))
       (λ i j l m. between-other 1 es s i j (joins-other i j s m))
 
--- a pair has a rank exactly when some stored edge joins it
-ranked : (t : Bool) (k : ℕ) (e : Edge) (p : Pair) (u : Bool) → 0 < k → ltb 0 (p .rank) ≡ u → ltb 0 (pick t (record { rank = k; edge = e }) p .rank) ≡ t || u
-ranked true k e p u h q = lt-ltb 0 k h
-ranked false k e p u h q = q
+-- ---- what the code holds of a diagram
 
-pub rank-joined : (k : ℕ) (es : List Stored) (i j : ℕ) → 0 < k → ltb 0 (between k es i j .rank) ≡ isJoined es i j
-unfolding between isJoined
-rank-joined k [] i j h = refl
-rank-joined k (s ∷ es) i j h = ranked (joins i j s) k (s .edge) (between (k + 1) es i j) (isJoined es i j) h (rank-joined (k + 1) es i j (omega arith))
+module _ (cd : Cd) (ns : List Node) (es : List Stored) (held : cd ≡ cdOf ns es) where
+  pub count-held : cd .count ≡ length ns
+  unfolding cdOf
+  count-held = ap (λ (x : Cd). x .count) held
+
+  pub nodes-held : cd .nodes ≡ padded (place Unringed) limit (map place ns)
+  unfolding cdOf
+  nodes-held = ap (λ (x : Cd). x .nodes) held
+
+  pub node-held : (d : Place) (i : ℕ) → i < limit → getD (cd .nodes) i d ≡ place (getD ns i Unringed)
+  node-held d i h = rw nodes-held (getD-padded (place Unringed) d limit (map place ns) i h ∙ List·getD-map place ns i Unringed)
+
+  pub pairs-held : cd .pairs ≡ triangle (between 1 es) limit
+  unfolding cdOf
+  pairs-held = ap (λ (x : Cd). x .pairs) held
