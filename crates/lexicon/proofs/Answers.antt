@@ -1,0 +1,39 @@
+-- What an answer of the reader tells of the reading that it shows. Assumes nothing.
+use Prim.Native.Nat.{ℕ, _≤_}
+use mathlib.Core.Bool.{Bool, false}
+use mathlib.Core.List.{List}
+use mathlib.Core.Path.{_≡_, refl, sym, ap, _∙_}
+use native.Mathlib.Omega.{arith}
+use Rattle.cd.specs.Diagrams.{Stored, limit, cdOf}
+use Rattle.cd.specs.Minimal.{Minimal, Decides}
+use Rattle.cd.specs.declared.Cd.{Cd}
+use Rattle.cd.specs.declared.CdError.{CdError}
+use Rattle.cd.specs.declared.Node.{Node}
+use Rattle.parse.specs.Reading.{Reading, Accepted, Refused, read, answer}
+use Rattle.parse.specs.declared.Answer.the-variants as said
+use Rattle.parse.specs.declared.Read.{Read}
+use Rattle.parse.proofs.Outcomes.{accepted-few}
+use Rattle.lexicon.specs.Reads.{Marks}
+
+answer-few : (x : Reading) (s : List ℕ) → read s ≡ x → answer x .cd .count ≤ limit
+unfolding answer cdOf
+answer-few (Accepted ns es) s h = accepted-few s ns es h
+answer-few (Refused r) s h = omega arith
+
+-- the diagram of any text has at most `limit` nodes
+pub read-few : (s : List ℕ) (r : Read) → r ≡ answer (read s) → r .cd .count ≤ limit
+read-few s r h = rw h (answer-few (read s) s refl)
+
+apart : (e : CdError) → said.Accepted ≡ said.Refused e → ⊥
+apart e h = let z : _≡_ {A = ℕ} 0 1 = (cc) in omega arith
+
+pub mark-accepted : (x : Reading) (r : Read) (b : Bool) → r ≡ answer x → r .answer ≡ said.Accepted
+    → ((ns : List Node) (es : List Stored) → r .cd ≡ cdOf ns es → Decides (Minimal ns es) b) → Marks x b
+unfolding answer
+mark-accepted (Accepted ns es) r b h a f = f ns es (ap (λ (y : Read). y .cd) h)
+mark-accepted (Refused e) r b h a f = absurd (apart e (sym a ∙ ap (λ (y : Read). y .answer) h))
+
+pub mark-refused : (x : Reading) (r : Read) (e : CdError) → r ≡ answer x → r .answer ≡ said.Refused e → Marks x false
+unfolding answer
+mark-refused (Accepted ns es) r e h a = absurd (apart e (sym (ap (λ (y : Read). y .answer) h) ∙ a))
+mark-refused (Refused f) r e h a = refl

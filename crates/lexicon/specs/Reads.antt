@@ -1,0 +1,18 @@
+-- The promise of `read`. Document 01: a call "ends with a diagram, record or table, or with a refusal".
+use mathlib.Core.Bool.{Bool, false}
+use mathlib.Core.List.{List}
+use mathlib.Core.Path.{_≡_}
+use Prim.Native.Nat.{ℕ}
+use Rattle.cd.specs.Minimal.{Minimal, Decides}
+use Rattle.parse.specs.Reading as parse
+use Rattle.lexicon.specs.declared.Reading.{Reading}
+
+-- the minimal mark of an accepted text; a refusal has none
+abbrev pub Marks : parse.Reading → Bool → Type 0
+Marks (parse.Accepted ns es) b = Decides (Minimal ns es) b
+Marks (parse.Refused r) b = b ≡ false
+
+-- the diagram with its stored edges, or the refusal with its fields, and the minimal mark
+pub record Reads (text : List ℕ) (r : Reading) : Type 0 where
+  pub answer : r .read ≡ parse.answer (parse.read text)
+  pub minimal : Marks (parse.read text) (r .minimal)
