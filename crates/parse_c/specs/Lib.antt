@@ -1,0 +1,2 @@
+-- What C gets of a reading.
+pub mod Sizes
