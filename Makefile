@@ -1,30 +1,39 @@
 # make test: the comparisons, then `rt ci`. make compare: the comparisons alone, of a seed of one's own by SEED=7.
-# make bench: the ratios of docs/BENCHMARKS.md. Everything is built into target/.
+# make run: cdlist on standard input, or on a sample where that is a terminal. make bench: the ratios of docs/BENCHMARKS.md.
+# Everything is built into target/.
 
 CC = gcc
 CFLAGS = -std=c11 -Wall -Wextra -ffp-contract=off
-FLOAT = target/staticlib/libfloat_c.a
+LIB = target/staticlib
 
-.PHONY: test compare bench float_c
+.PHONY: test run compare bench float_c parse_c
 
 # `rt ci` starts from nothing and removes target/, so it comes last; its last line is the verdict.
 test: compare
 	@rt ci
 
+run: | target
+	@rt check cdlist >target/cdlist.log 2>&1 || { cat target/cdlist.log; exit 1; }
+	@if [ -t 0 ]; then target/bin/cdlist <crates/cdlist/stdin; else target/bin/cdlist; fi
+
 # Proves before it builds.
-float_c: | target
-	@rt staticlib float_c >target/float_c.log 2>&1 || { cat target/float_c.log; exit 1; }
+float_c parse_c: | target
+	@rt staticlib $@ >target/$@.log 2>&1 || { cat target/$@.log; exit 1; }
 
 compare: float_c
-	@$(CC) $(CFLAGS) -O2 -o target/float oracle/float.c $(FLOAT) -lm
+	@$(CC) $(CFLAGS) -O2 -o target/float oracle/float.c $(LIB)/libfloat_c.a -lm
 	@target/float $(SEED)
+	@if oracle/build; then python3 oracle/answers.py; fi
 
 # At -O3, as rt compiles. The plain C may call nothing: its root is the machine's instruction.
-bench: float_c
+bench: float_c parse_c
 	@$(CC) $(CFLAGS) -O3 -fno-math-errno -c -o target/float_plain.o bench/float_plain.c
 	@test -z "$$(nm -u target/float_plain.o)"
-	@$(CC) $(CFLAGS) -O3 -o target/float_bench bench/float.c target/float_plain.o $(FLOAT)
+	@$(CC) $(CFLAGS) -O3 -o target/float_bench bench/float.c target/float_plain.o $(LIB)/libfloat_c.a
 	@target/float_bench
+	@oracle/build && python3 oracle/corpus.py long >target/long.txt
+	@$(CC) $(CFLAGS) -O3 -o target/reading_bench bench/reading.c $(LIB)/libparse_c.a target/rust/release/libmiratope.a -lpthread -ldl -lm
+	@target/reading_bench target/long.txt
 
 target:
 	@mkdir -p target

@@ -1,6 +1,7 @@
-"""Compares the Rust with the model, and keeps the answers.
+"""Compares the Rust with the model of document 01, and both with the answers that crates/replay_reading holds.
 
-`answers.py`                  corpus.txt; writes answers.txt, the Rust's answer where it has one, the model's elsewhere
+`answers.py`                  the stored texts are the corpus, and the stored answers the Rust's, or the model's where the Rust has none
+`answers.py write`            stores them
 `answers.py stress N [SEED]`  all texts of up to four bytes of a small alphabet, then N texts by chance
 
 Exit status: 0 nothing differs, 1 something does.
@@ -15,19 +16,29 @@ import chance
 import corpus
 import model
 
-HERE = pathlib.Path(__file__).parent
-READING = HERE.parent / "target/rust/release/reading"
+TOP = pathlib.Path(__file__).parent.parent
+READING = TOP / "target/rust/release/reading"
+STORED = TOP / "crates/replay_reading"
 
 
-def main(mode="corpus", *numbers):
-    if mode == "stress":
-        _, tally = compare(list(stress(*map(int, numbers))))
-    else:
-        answers, tally = compare((HERE / "corpus.txt").read_bytes().split(b"\n")[:-1])
-        (HERE / "answers.txt").write_text("".join(answer + "\n" for answer in answers))
+def main(mode="check", *numbers):
+    texts = list(stress(*map(int, numbers)) if mode == "stress" else corpus.corpus())
+    answers, tally = compare(texts)
+    if mode != "stress":
+        files = {"stdin": lines(texts), "stdout": lines(answer.encode() for answer in answers)}
+        for name, content in files.items():
+            if mode == "write":
+                (STORED / name).write_bytes(content)
+            elif (STORED / name).read_bytes() != content:
+                tally["differ"] += 1
+                print(f"{STORED / name} is not what is made here")
     for what in sorted(tally):
         print(f"{tally[what]:8} {what}")
     sys.exit(tally["differ"] > 0)
+
+
+def lines(texts):
+    return b"".join(text + b"\n" for text in texts)
 
 
 def stress(count, seed=1):
@@ -38,8 +49,7 @@ def stress(count, seed=1):
 
 def compare(texts):
     """The answers, and how many there are of each sort."""
-    lines = b"".join(text + b"\n" for text in texts)
-    rusts = subprocess.run([READING], input=lines, stdout=subprocess.PIPE, check=True).stdout.decode().splitlines()
+    rusts = subprocess.run([READING], input=lines(texts), stdout=subprocess.PIPE, check=True).stdout.decode().splitlines()
     assert len(rusts) == len(texts)
 
     answers, tally = [], collections.Counter({"texts": len(texts), "different texts": len(set(texts)), "differ": 0})

@@ -1,6 +1,6 @@
-"""Writes the corpus, a text a line, small enough for one run of `cdlist` (65,536 bytes): `corpus.py > corpus.txt`.
+"""The corpus, small enough for one run of a program that reads 65,536 bytes.
 
-`corpus.py long > FILE` writes the 1,000 long accepted texts that the readers are timed with.
+`corpus.py` writes it, a text a line; `corpus.py long` writes the 1,000 long accepted texts that the readers are timed with.
 """
 
 import itertools
