@@ -5,4 +5,5 @@ mod JoinLaws
 mod ReadLaws
 mod Turns
 pub mod Outcomes
+mod Walk
 mod TextsRight
