@@ -1,9 +1,12 @@
 // cd.rs of miratope-core: nodes, edges, references, refusals and diagrams.
+ghost use mathlib.Core.List.{[], _∷_};
 ghost use mathlib.Core.Path.{_≡_};
-ghost use Prim.Native.Nat.{_<_};
+ghost use Prim.Native.Nat.{_<_, _≤_};
+ghost use lib.ListN.{take};
 ghost use Rattle.cd.specs.Letters.{letterOf};
 ghost use Rattle.cd.specs.Edges.{isEdge, isTwo};
 ghost use Rattle.cd.specs.References.{indexOf, endsOf};
+ghost use Rattle.cd.specs.Refusals.{numberOf};
 ghost use Rattle.cd.specs.Diagrams.{placeOf};
 
 pub mod minimal; // minimal.rt: components, and whether a diagram is minimal
@@ -45,6 +48,45 @@ pub enum CdError {
     OutOfRange { pos: usize },
     TooManyNodes { pos: usize },
     MissingNode { edge: usize },
+}
+
+// A refusal's number in document 01 and its fields, in the order given there.
+pub struct Numbers {
+    pub at: [usize; 4],
+    pub count: usize,
+}
+
+pub fn figures(e: CdError) -> Numbers
+    ensures { λ r. ⌜ (take (r .count) (r .at) ≡ numberOf e) × (r .count ≤ 4) ⌝ }
+{
+    match e {
+        CdError::TooLong { pos } => one_field(1, pos),
+        CdError::NotAscii { pos } => one_field(2, pos),
+        CdError::MismatchedParenthesis { pos } => one_field(3, pos),
+        CdError::UnexpectedEnding { pos } => one_field(4, pos),
+        CdError::ParseError { pos } => one_field(5, pos),
+        CdError::InvalidSymbol { pos } => one_field(6, pos),
+        CdError::InvalidEdge { num, den, pos } => Numbers {
+            at: [7, num as usize, den as usize, pos],
+            count: 4,
+        },
+        CdError::RepeatEdge { a, b } => Numbers {
+            at: [8, a, b, 0],
+            count: 3,
+        },
+        CdError::OutOfRange { pos } => one_field(9, pos),
+        CdError::TooManyNodes { pos } => one_field(10, pos),
+        CdError::MissingNode { edge } => one_field(11, edge),
+    }
+}
+
+fn one_field(number: usize, field: usize) -> Numbers
+    ensures { λ r. ⌜ (take (r .count) (r .at) ≡ number ∷ field ∷ []) × (r .count ≤ 4) ⌝ }
+{
+    Numbers {
+        at: [number, field, 0, 0],
+        count: 2,
+    }
 }
 
 pub struct Place {

@@ -1,0 +1,2 @@
+-- Document 01, "Texts to try", the program `cdlist`.
+pub mod Lists

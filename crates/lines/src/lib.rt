@@ -1,0 +1,124 @@
+// What the programs share: a text a line, and answers gathered in a buffer.
+use cd::Numbers;
+use lexicon::Reading;
+use parse::Answer;
+ghost use Prim.Native.Nat.{_+_, _≤_, _<_};
+ghost use mathlib.Core.List.{[], _∷_};
+ghost use mathlib.Core.Path.{_≡_};
+ghost use lib.ListN.{length, take, drop};
+ghost use Rattle.float.specs.Pick.{pick};
+ghost use Rattle.parse.specs.Reading as parse;
+ghost use Rattle.lines.specs.Lines.{lineEnd};
+ghost use Rattle.lines.specs.Answers.{numeral, spaced, answerOf};
+ghost use Rattle.lines.specs.Written.{Adds};
+
+// The place of the first LF from `from` on, or the length.
+pub fn line_end(s: &[u8], from: usize) -> usize
+    requires { ⌜ from ≤ length (now s) ⌝ }
+    ensures { λ r. ⌜ (r ≡ lineEnd (drop from (now (s .entry))) from) × (from ≤ r) × (r ≤ length (now (s .entry))) ⌝ }
+{
+    let mut i = from;
+    while i < s.len() {
+        if s[i] == b'\n' {
+            return i;
+        }
+        i += 1;
+    }
+    i
+}
+
+// Answers wait here, so that they are written many at a time.
+pub fn buffer() -> [u8; 16384]
+    ensures { λ r. ⌜ 16384 ≡ length r ⌝ }
+{
+    [0; 16384]
+}
+
+// Writes the answers that wait once they take half the buffer, so that any further answer has room. Answers how many bytes wait then.
+pub fn flushed(out: &[u8], at: usize) -> usize
+    requires { ⌜ at ≤ length (now out) ⌝ }
+    ensures { λ r. ⌜ (r ≤ 8192) × (r ≤ at) ⌝ }
+{
+    if at <= 8192 {
+        return at;
+    }
+    io::write_all(1, &out[..at]);
+    0
+}
+
+pub fn put(out: &mut [u8], at: usize, b: u8) -> usize
+    requires { ⌜ at < length (now out) ⌝ }
+    ensures { λ r. ⌜ Adds (now (out .entry)) at (now (out .exit)) r (b ∷ []) ⌝ }
+{
+    out[at] = b;
+    at + 1
+}
+
+pub fn put_all(out: &mut [u8], at: usize, s: &[u8]) -> usize
+    requires { ⌜ at + length (now s) ≤ length (now out) ⌝ }
+    ensures { λ r. ⌜ Adds (now (out .entry)) at (now (out .exit)) r (now (s .entry)) ⌝ }
+{
+    let mut i = 0;
+    while i < s.len() {
+        out[at + i] = s[i];
+        i += 1;
+    }
+    at + i
+}
+
+// The byte, and then the number in decimal.
+pub fn put_number(out: &mut [u8], at: usize, mark: u8, n: u64) -> usize
+    requires { ⌜ at + 21 ≤ length (now out) ⌝ }
+    ensures { λ r. ⌜ Adds (now (out .entry)) at (now (out .exit)) r (mark ∷ numeral n) × (r ≤ at + 21) ⌝ }
+{
+    let mut digits = [0u8; 20];
+    let k = io::decimal(n, &mut digits);
+    let to = put(out, at, mark);
+    put_all(out, to, &digits[..k])
+}
+
+// Each number, after a space.
+pub fn figures(out: &mut [u8], at: usize, f: Numbers) -> usize
+    requires { ⌜ (at + 84 ≤ length (now out)) × (f .count ≤ 4) ⌝ }
+    ensures { λ r. ⌜ Adds (now (out .entry)) at (now (out .exit)) r (spaced (take (f .count) (f .at))) × (r ≤ at + 84) ⌝ }
+{
+    let count = f.count;
+    let mut to = at;
+    let mut k = 0;
+    while k < count {
+        let n = f.at[k];
+        to = put_number(out, to, b' ', n as u64);
+        k += 1;
+    }
+    to
+}
+
+fn flag(b: bool) -> usize
+    ensures { λ r. ⌜ r ≡ pick b 1 0 ⌝ }
+{
+    if b { 1 } else { 0 }
+}
+
+// `ok`, nodes, stored edges, minimal 1 or 0; or `no`, number, fields.
+pub fn answer(out: &mut [u8], at: usize, r: Reading) -> usize
+    requires { ⌜ at + 86 ≤ length (now out) ⌝ }
+    ensures { λ to. ⌜ ((x : parse.Reading) → r .read ≡ parse.answer x → Adds (now (out .entry)) at (now (out .exit)) to (answerOf x (r .minimal))) × (to ≤ at + 86) ⌝ }
+{
+    let read = r.read;
+    let a = read.answer;
+    match a {
+        Answer::Accepted => {
+            let cd = read.cd;
+            let f = Numbers {
+                at: [cd.count, cd.edges, flag(r.minimal), 0],
+                count: 3,
+            };
+            let to = put_all(out, at, b"ok");
+            figures(out, to, f)
+        }
+        Answer::Refused(e) => {
+            let to = put_all(out, at, b"no");
+            figures(out, to, cd::figures(e))
+        }
+    }
+}
