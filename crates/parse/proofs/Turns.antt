@@ -12,7 +12,7 @@ use lib.ListN.{length, getD, take, drop, set, replicate, length-map, length-set}
 use lib.Seq.{length-take-le, take-suc-set}
 use Rattle.float.specs.Pick.{pick}
 use Rattle.cd.specs.Arrays.{padded, triangle}
-use Rattle.cd.specs.Diagrams.{between, limit, place, cdOf}
+use Rattle.cd.specs.Diagrams.{Stored, between, limit, place, cdOf}
 use Rattle.cd.specs.Edges.{isEdge}
 use Rattle.cd.specs.declared.CdError.{CdError}
 use Rattle.cd.specs.declared.CdError.the-variants.{TooManyNodes}
@@ -32,10 +32,10 @@ use Rattle.scan.proofs.Places.{edge-next, edge-valid}
 use Rattle.parse.specs.Nodes.{nodeAt}
 use Rattle.parse.specs.Text.{Seen, Outcome, On, Refused, onto, Joint, Without, With, queued, taken, nodeIn, afterEdge, turn, turns, textFrom}
 use Rattle.parse.proofs.Ahead.{node-ahead, reference-ahead}
-use Rattle.parse.specs.Joining.{Joined}
+use Rattle.parse.specs.Joining.{joinAll}
 use Rattle.parse.specs.Joining as joining
-use Rattle.parse.specs.Reading.{answer, withEdges}
-use Rattle.parse.specs.Held.{holding}
+use Rattle.parse.specs.Reading.{answer, joined, withEdges}
+use Rattle.parse.specs.Reading as gives
 use Rattle.parse.specs.declared.Answer.the-variants.{Accepted}
 use Rattle.parse.specs.declared.Read.{Read}
 use Rattle.parse.specs.declared.Queue.{Queue}
@@ -286,13 +286,41 @@ same-places : (l : List Place) → map place (map (λ (p : Place). p .node) l) �
 same-places [] = refl
 same-places (p ∷ l) = ap (λ (m : List Place). p ∷ m) (same-places l)
 
--- nodes in their places, and the edges stored, are the diagram
-pub holding-answer : (nodes : List Place) (count : ℕ) (j : Joined) → nodes ≡ padded (place Unringed) limit (take count nodes) → count ≤ limit
-    → holding nodes count j ≡ answer (withEdges (held nodes count) j)
-unfolding holding answer withEdges cdOf
-holding-answer nodes count (joining.Edges es) p h =
-    let e : nodes ≡ padded (place Unringed) limit (map place (held nodes count)) = p ∙ ap (padded (place Unringed) limit) (sym (same-places (take count nodes))) in
-    let f = held-long nodes count p h in
-    ap (λ (l : List Place). record { answer = Accepted; cd = record { nodes = l; count = count; pairs = triangle (between 1 es) limit; edges = length es } }) e
-    ∙ ap (λ (c : ℕ). record { answer = Accepted; cd = record { nodes = padded (place Unringed) limit (map place (held nodes count)); count = c; pairs = triangle (between 1 es) limit; edges = length es } }) (sym f)
-holding-answer nodes count (joining.Refused r) p h = refl
+-- the text is read: the queue joined gives the answer
+pub record Ended (s : List ℕ) (start : ℕ) (nodes : List Place) (count : ℕ) (q : Queue) : Type 0 where
+  pub places : nodes ≡ padded (place Unringed) limit (take count nodes)
+  pub few : count ≤ limit
+  pub slots : length (q .at) ≡ 128
+  pub fits : q .count ≤ 128
+  pub gives : joined (textFrom s start) ≡ withEdges (held nodes count) (joinAll count (waits q) 0 [])
+
+pub ended : {s : List ℕ} {start at : ℕ} {nodes : List Place} {count : ℕ} {q : Queue} {prev : NodeRef} {next : ℕ} → After s start at nodes count q prev next
+    → length s ≤ 255 → length s ≤ next → Ended s start nodes count q
+unfolding joined
+ended {nodes = nodes} {count = count} {q = q} a short h =
+    record {
+      places = a .places;
+      few = a .few;
+      slots = a .slots;
+      fits = omega (arith, a .room, a .upto);
+      gives = ap joined (whole a h) ∙ ap (λ (n : ℕ). withEdges (held nodes count) (joinAll n (waits q) 0 [])) (held-long nodes count (a .places) (a .few));
+    }
+
+module _ {s : List ℕ} {start : ℕ} {nodes : List Place} {count : ℕ} {q : Queue} (e : Ended s start nodes count q) where
+  pub join-refused : (r : CdError) → joinAll count (waits q) 0 [] ≡ joining.Refused r → answer (gives.Refused r) ≡ answer (joined (textFrom s start))
+  unfolding withEdges
+  join-refused r h = ap answer (sym (e .gives ∙ ap (withEdges (held nodes count)) h))
+
+  -- nodes in their places, and the edges stored, are the diagram
+  pub join-accepted : (es : List Stored) → joinAll count (waits q) 0 [] ≡ joining.Edges es
+      → record { answer = Accepted; cd = record { nodes = nodes; count = count; pairs = triangle (between 1 es) limit; edges = length es } } ≡ answer (joined (textFrom s start))
+  unfolding withEdges answer cdOf
+  join-accepted es h =
+      let l : map place (held nodes count) ≡ take count nodes = same-places (take count nodes) in
+      let g : joined (textFrom s start) ≡ gives.Accepted (held nodes count) es = e .gives ∙ ap (withEdges (held nodes count)) h in
+      let c = held-long nodes count (e .places) (e .few) in
+      ap (λ (x : List Place). record { answer = Accepted; cd = record { nodes = x; count = count; pairs = triangle (between 1 es) limit; edges = length es } })
+      (e .places ∙ ap (padded (place Unringed) limit) (sym l))
+      ∙ ap (λ (n : ℕ). record { answer = Accepted; cd = record { nodes = padded (place Unringed) limit (map place (held nodes count)); count = n; pairs = triangle (between 1 es) limit; edges = length es } })
+      (sym c)
+      ∙ ap answer (sym g)

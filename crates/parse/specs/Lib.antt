@@ -3,5 +3,4 @@ pub mod Nodes
 pub mod Text
 pub mod Joining
 pub mod Reading
-pub mod Held
 pub mod Texts

@@ -11,13 +11,10 @@ use cd::Place;
 use node::NodeRead;
 use scan::EdgeRead;
 ghost use mathlib.Core.Path.{_≡_};
-ghost use mathlib.Core.List.{[]};
 ghost use Prim.Native.Nat.{_≤_};
-ghost use lib.ListN.{length, take};
+ghost use lib.ListN.{length};
 ghost use Rattle.parse.specs.Text.{textFrom};
-ghost use Rattle.parse.specs.Joining.{joinAll};
 ghost use Rattle.parse.specs.Reading.{Reading, joined, high, readFrom, answer};
-ghost use Rattle.parse.specs.Held.{holding};
 
 pub mod node; // node.rt: nodes and references
 pub mod builder; // builder.rt: the reader that holds the text
@@ -60,57 +57,8 @@ pub fn refused(r: CdError) -> Read
     }
 }
 
-// The queue joined in order, over the nodes in their places.
-pub fn join_all(nodes: [Place; 9], count: usize, queue: Queue) -> Read
-    requires { ⌜ (count ≤ 9) × (queue .count ≤ 128) ⌝ }
-    ensures { λ r. ⌜ r ≡ holding nodes count (joinAll count (take (queue .count) (queue .at)) 0 []) ⌝ }
-{
-    let none = Pair {
-        rank: 0,
-        edge: Edge { num: 0, den: 0 },
-    };
-    let mut pairs = [none; 45];
-    let mut edges: usize = 0;
-    let waiting = queue.count;
-    let mut k = 0;
-    while k < waiting {
-        let e = queue.at[k];
-        match cd::indices(e, count) {
-            Ends::Missing => {
-                return refused(CdError::MissingNode { edge: k });
-            }
-            Ends::Dropped => {
-                k += 1;
-            }
-            Ends::Both(a, b) => {
-                let p = cd::pair_place(a, b);
-                let was = pairs[p];
-                if 0 < was.rank {
-                    return refused(CdError::RepeatEdge { a: a, b: b });
-                }
-                let edge = e.edge;
-                edges += 1;
-                pairs[p] = Pair {
-                    rank: edges as u32,
-                    edge: edge,
-                };
-                k += 1;
-            }
-        }
-    }
-    Read {
-        answer: Answer::Accepted,
-        cd: Cd {
-            nodes: nodes,
-            count: count,
-            pairs: pairs,
-            edges: edges,
-        },
-    }
-}
-
-// The text from `start` on: a node, then, while bytes remain, an optional edge and a node. (Nodes and queue are locals of the
-// loop and stored in place: to hand them through a function at each turn would cost more than all else.)
+// The text from `start` on: a node, then, while bytes remain, an optional edge and a node; then the queue joined in order. (One
+// function, since nodes and queue are locals that are stored in place: to hand them on copies them, a quarter of a short text's time.)
 pub fn read_text(s: &[u8], start: usize) -> Read
     requires { ⌜ (start ≤ length (now s)) × (length (now s) ≤ 255) ⌝ }
     ensures { λ r. ⌜ r ≡ answer (joined (textFrom (now (s .entry)) start)) ⌝ }
@@ -168,7 +116,7 @@ pub fn read_text(s: &[u8], start: usize) -> Read
         }
         prev = this;
         if s.len() <= next {
-            return join_all(nodes, count, queue);
+            break;
         }
         match scan::create_edge(s, next) {
             EdgeRead::NoEdge => {
@@ -183,6 +131,49 @@ pub fn read_text(s: &[u8], start: usize) -> Read
                 return refused(r);
             }
         }
+    }
+    // The edges that wait are joined.
+    let apart = Pair {
+        rank: 0,
+        edge: none,
+    };
+    let mut pairs = [apart; 45];
+    let mut edges: usize = 0;
+    let waiting = queue.count;
+    let mut k = 0;
+    while k < waiting {
+        let e = queue.at[k];
+        match cd::indices(e, count) {
+            Ends::Missing => {
+                return refused(CdError::MissingNode { edge: k });
+            }
+            Ends::Dropped => {
+                k += 1;
+            }
+            Ends::Both(a, b) => {
+                let p = cd::pair_place(a, b);
+                let was = pairs[p];
+                if 0 < was.rank {
+                    return refused(CdError::RepeatEdge { a: a, b: b });
+                }
+                let edge = e.edge;
+                edges += 1;
+                pairs[p] = Pair {
+                    rank: edges as u32,
+                    edge: edge,
+                };
+                k += 1;
+            }
+        }
+    }
+    Read {
+        answer: Answer::Accepted,
+        cd: Cd {
+            nodes: nodes,
+            count: count,
+            pairs: pairs,
+            edges: edges,
+        },
     }
 }
 

@@ -13,20 +13,17 @@ enum-told : tie.Need-enum-told
 enum-told c = search needs
 
 minimal-requires : tie.Need-minimal-requires
-
 minimal-requires c κs = let p = c .before .before .before in read-few (p .before .before .args .text .now) _ (p .parse .ensures)
 
 enum-told-2 : tie.Need-enum-told-2
 enum-told-2 c = search needs
 
 returns : tie.Need-returns
-
 returns c =
     let p = c .before .before .before .before in
     record { answer = p .parse .ensures; minimal = mark-accepted _ _ _ (p .parse .ensures) (c .before .before .enum-told .given .1) (c .minimal .ensures) }
 
 returns-2 : tie.Need-returns-2
-
 returns-2 c =
     let p = c .before .before in
     record { answer = p .parse .ensures; minimal = mark-refused _ _ _ (p .parse .ensures) (c .enum-told2 .given .1) }
