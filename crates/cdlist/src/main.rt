@@ -8,7 +8,7 @@ fn line(text: &[u8], out: &mut [u8], at: usize) -> usize
     ensures { λ r. ⌜ Lists (now (text .entry)) (now (out .entry)) at (now (out .exit)) r × (r ≤ at + 87) ⌝ }
 {
     let r = lexicon::read(text);
-    let to = lines::answer(out, at, r);
+    let to = lines::put_answer(out, at, r);
     lines::put(out, to, b'\n')
 }
 

@@ -1,7 +1,7 @@
 -- The digits that `io::decimal` writes, the fewest that hold the number, are those of `numeral`. Assumes nothing.
 use Prim.Native.Nat.{ℕ, zero, suc, _-_, _*_, _/_, _%_, _^_, _≤_, _<_}
 use mathlib.Core.List.{List, [], _∷_, _++_}
-use mathlib.Core.Path.{_≡_, ap, _∙_}
+use mathlib.Core.Path.{_≡_}
 use native.Mathlib.Nat.{mod-lt, mod-eq-of-lt, pow-suc, one-le-pow, pow-le-pow-right, le-div-iff-mul-le, div-lt-iff-lt-mul, zero-lt-suc, lt-of-not-le}
 use native.Mathlib.Numerals.{sub-one}
 use native.Mathlib.Omega.{arith}
@@ -9,15 +9,16 @@ use borrow.Author.Tests.{lt-ltb, le-ltb}
 use Rattle.io.specs.Digits.{digits, Fewest}
 use Rattle.lines.specs.Answers.{inDigits, numeral}
 
--- as many digits as hold every number of the size are enough
-pub few-digits : (b least most n r : ℕ) → 0 < b → least ≤ most → n < b ^ most → Fewest b least n r → r ≤ most
-few-digits b least most n r pos l h f =
-    let below : r < suc most = lt-of-not-le (λ m.
-    let p : b ^ most ≤ b ^ (r - 1) = pow-le-pow-right pos {i = most} (omega arith) in
-    let q : b ^ (r - 1) ≤ n = f .2 (omega arith) in
-    omega arith)
-    in
-    omega arith
+-- as many digits as hold every number of a size are enough
+module _ (b least most n r : ℕ) (pos : 0 < b) (l : least ≤ most) (h : n < b ^ most) (f : Fewest b least n r) where
+  no-more : suc most ≤ r → ⊥
+  no-more m =
+      let p : b ^ most ≤ b ^ (r - 1) = pow-le-pow-right pos {i = most} (omega arith) in
+      let q : b ^ (r - 1) ≤ n = f .2 (omega arith) in
+      omega arith
+
+  pub few-digits : r ≤ most
+  few-digits = omega (arith, lt-of-not-le no-more)
 
 digits-of : (k r n : ℕ) → r ≤ k → Fewest 10 1 n r → digits 10 r n ≡ inDigits k n
 unfolding inDigits

@@ -1,5 +1,6 @@
 -- The end of a line, a byte at a time. Assumes nothing.
 use Prim.Native.Nat.{ℕ, _+_, _≤_, _<_}
+use Prim.Native.Char.{code}
 use mathlib.Core.List.{List}
 use mathlib.Core.Path.{_≡_}
 use lib.ListN.{length, getD, drop, drop-of-length-le}
@@ -8,13 +9,13 @@ use Rattle.scan.proofs.Rest.{drop-at}
 use Rattle.lines.specs.Lines.{lineEnd}
 
 module _ (s : List ℕ) (i : ℕ) where
-  pub end-here : i < length s → getD s i 0 ≡ 10 → i ≡ lineEnd (drop i s) i
+  pub end-here : i < length s → getD s i 0 ≡ code "\n" → i ≡ lineEnd (drop i s) i
   unfolding lineEnd
-  end-here h e = rw (drop-at s i h, eq-eqb _ 10 e)
+  end-here h e = rw (drop-at s i h, eq-eqb _ (code "\n") e)
 
-  pub end-on : i < length s → (getD s i 0 ≡ 10 → ⊥) → lineEnd (drop (i + 1) s) (i + 1) ≡ lineEnd (drop i s) i
+  pub end-on : i < length s → (getD s i 0 ≡ code "\n" → ⊥) → lineEnd (drop (i + 1) s) (i + 1) ≡ lineEnd (drop i s) i
   unfolding lineEnd
-  end-on h e = rw (drop-at s i h, ne-eqb _ 10 e)
+  end-on h e = rw (drop-at s i h, ne-eqb _ (code "\n") e)
 
   pub end-last : length s ≤ i → i ≡ lineEnd (drop i s) i
   unfolding lineEnd

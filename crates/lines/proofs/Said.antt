@@ -2,7 +2,7 @@
 use Prim.Native.Nat.{ℕ}
 use mathlib.Core.Bool.{Bool}
 use mathlib.Core.List.{List, [], _∷_, _++_}
-use mathlib.Core.Path.{_≡_, refl, sym, ap, _∙_}
+use mathlib.Core.Path.{_≡_, sym, ap, _∙_}
 use native.Mathlib.Omega.{arith}
 use Rattle.float.specs.Pick.{pick}
 use Rattle.cd.specs.Diagrams.{cdOf}
@@ -23,21 +23,21 @@ alike : (d e : CdError) → said.Refused d ≡ said.Refused e → d ≡ e
 alike d e h = cc
 
 says-ok : (r : Read) (m : Bool) (x : Reading) → r ≡ answer x → r .answer ≡ said.Accepted
-    → answerOf x m ≡ (111 ∷ 107 ∷ []) ++ spaced (r .cd .count ∷ r .cd .edges ∷ pick m 1 0 ∷ [])
-unfolding answer answerOf cdOf ascii
+    → answerOf x m ≡ ascii "ok" ++ spaced (r .cd .count ∷ r .cd .edges ∷ pick m 1 0 ∷ [])
+unfolding answer answerOf cdOf
 says-ok r m (Accepted ns es) h a = rw h
 says-ok r m (Refused e) h a = absurd (apart e (sym a ∙ ap (λ (y : Read). y .answer) h))
 
-says-no : (r : Read) (m : Bool) (e : CdError) (x : Reading) → r ≡ answer x → r .answer ≡ said.Refused e → answerOf x m ≡ (110 ∷ 111 ∷ []) ++ spaced (numberOf e)
-unfolding answer answerOf ascii
+says-no : (r : Read) (m : Bool) (e : CdError) (x : Reading) → r ≡ answer x → r .answer ≡ said.Refused e → answerOf x m ≡ ascii "no" ++ spaced (numberOf e)
+unfolding answer answerOf
 says-no r m e (Accepted ns es) h a = absurd (apart e (sym (ap (λ (y : Read). y .answer) h) ∙ a))
 says-no r m e (Refused d) h a = rw (alike d e (sym (ap (λ (y : Read). y .answer) h) ∙ a))
 
 -- the word and the figures are added
 module _ {a b c : List ℕ} {i j k : ℕ} (r : Read) (m : Bool) (x : Reading) (h : r ≡ answer x) where
-  pub adds-ok : (n : ℕ) → r .answer ≡ said.Accepted → n ≡ pick m 1 0 → Adds a i b j (111 ∷ 107 ∷ []) → Adds b j c k (spaced (r .cd .count ∷ r .cd .edges ∷ n ∷ []))
+  pub adds-ok : (n : ℕ) → r .answer ≡ said.Accepted → n ≡ pick m 1 0 → Adds a i b j (ascii "ok") → Adds b j c k (spaced (r .cd .count ∷ r .cd .edges ∷ n ∷ []))
       → Adds a i c k (answerOf x m)
   adds-ok n s e p q = rw (says-ok r m x h s, ← e) (adds-then _ _ p q)
 
-  pub adds-no : (e : CdError) (xs : List ℕ) → r .answer ≡ said.Refused e → xs ≡ numberOf e → Adds a i b j (110 ∷ 111 ∷ []) → Adds b j c k (spaced xs) → Adds a i c k (answerOf x m)
+  pub adds-no : (e : CdError) (xs : List ℕ) → r .answer ≡ said.Refused e → xs ≡ numberOf e → Adds a i b j (ascii "no") → Adds b j c k (spaced xs) → Adds a i c k (answerOf x m)
   adds-no e xs s n p q = rw (says-no r m e x h s, ← n) (adds-then _ _ p q)

@@ -1,5 +1,6 @@
 -- What is added to a buffer in two steps is added in one; a slice, a byte at a time; figures, one at a time. Assumes nothing.
 use Prim.Native.Nat.{ℕ, _+_, _≤_, _<_}
+use Prim.Native.Char.{code}
 use mathlib.Core.List.{List, [], _∷_, _++_, append-assoc, append-nil}
 use mathlib.Core.Path.{_≡_, refl, sym, ap, _∙_}
 use native.Mathlib.Nat.{add-zero}
@@ -39,8 +40,8 @@ spaced-append [] ys = refl
 spaced-append (x ∷ xs) ys = rw (spaced-append xs ys, append-assoc)
 
 pub adds-figure : {a b c : List ℕ} {at i to : ℕ} (xs : List ℕ) (k : ℕ)
-    → k < length xs → Adds a at b i (spaced (take k xs)) → Adds b i c to (32 ∷ numeral (getD xs k 0)) → Adds a at c to (spaced (take (k + 1) xs))
+    → k < length xs → Adds a at b i (spaced (take k xs)) → Adds b i c to (code " " ∷ numeral (getD xs k 0)) → Adds a at c to (spaced (take (k + 1) xs))
 unfolding spaced
 adds-figure xs k h p q =
     let t : take (k + 1) xs ≡ take k xs ++ (getD xs k 0 ∷ []) = rw add-one (take-suc xs k 0 h) in
-    rw (t, spaced-append (take k xs) (getD xs k 0 ∷ []), append-nil) (adds-then (spaced (take k xs)) (32 ∷ numeral (getD xs k 0)) p q)
+    rw (t, spaced-append (take k xs) (getD xs k 0 ∷ []), append-nil) (adds-then (spaced (take k xs)) (code " " ∷ numeral (getD xs k 0)) p q)

@@ -66,7 +66,7 @@ pub fn put_all(out: &mut [u8], at: usize, s: &[u8]) -> usize
     at + i
 }
 
-// The byte, and then the number in decimal.
+// A byte, and then the number in decimal.
 pub fn put_number(out: &mut [u8], at: usize, mark: u8, n: u64) -> usize
     requires { ⌜ at + 21 ≤ length (now out) ⌝ }
     ensures { λ r. ⌜ Adds (now (out .entry)) at (now (out .exit)) r (mark ∷ numeral n) × (r ≤ at + 21) ⌝ }
@@ -77,8 +77,8 @@ pub fn put_number(out: &mut [u8], at: usize, mark: u8, n: u64) -> usize
     put_all(out, to, &digits[..k])
 }
 
-// Each number, after a space.
-pub fn figures(out: &mut [u8], at: usize, f: Numbers) -> usize
+// Each number after a space.
+pub fn put_numbers(out: &mut [u8], at: usize, f: Numbers) -> usize
     requires { ⌜ (at + 84 ≤ length (now out)) × (f .count ≤ 4) ⌝ }
     ensures { λ r. ⌜ Adds (now (out .entry)) at (now (out .exit)) r (spaced (take (f .count) (f .at))) × (r ≤ at + 84) ⌝ }
 {
@@ -100,7 +100,7 @@ fn flag(b: bool) -> usize
 }
 
 // `ok`, nodes, stored edges, minimal 1 or 0; or `no`, number, fields.
-pub fn answer(out: &mut [u8], at: usize, r: Reading) -> usize
+pub fn put_answer(out: &mut [u8], at: usize, r: Reading) -> usize
     requires { ⌜ at + 86 ≤ length (now out) ⌝ }
     ensures { λ to. ⌜ ((x : parse.Reading) → r .read ≡ parse.answer x → Adds (now (out .entry)) at (now (out .exit)) to (answerOf x (r .minimal))) × (to ≤ at + 86) ⌝ }
 {
@@ -114,11 +114,11 @@ pub fn answer(out: &mut [u8], at: usize, r: Reading) -> usize
                 count: 3,
             };
             let to = put_all(out, at, b"ok");
-            figures(out, to, f)
+            put_numbers(out, to, f)
         }
         Answer::Refused(e) => {
             let to = put_all(out, at, b"no");
-            figures(out, to, cd::figures(e))
+            put_numbers(out, to, cd::figures(e))
         }
     }
 }

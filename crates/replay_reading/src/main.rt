@@ -46,6 +46,7 @@ fn nodes(out: &mut [u8], at: usize, cd: Cd) -> usize
     let count = cd.count;
     let mut to = at;
     let mut i = 0;
+    // Both limits are tested, so that no law of the reader is needed; and so below.
     while i < 9 {
         if count <= i {
             return to;
@@ -128,7 +129,7 @@ fn line(text: &[u8], out: &mut [u8], at: usize) -> usize
     ensures { λ r. ⌜ r ≤ at + 4029 ⌝ }
 {
     let r = lexicon::read(text);
-    let mut to = lines::answer(out, at, r);
+    let mut to = lines::put_answer(out, at, r);
     // A refusal's diagram has neither nodes nor edges.
     let read = r.read;
     let cd = read.cd;

@@ -8,8 +8,8 @@ use Rattle.cdlist.proofs.line.Tie as tie
 read-requires : tie.Need-read-requires
 read-requires c κs = search needs
 
-answer-requires : tie.Need-answer-requires
-answer-requires c κs = search needs
+put-answer-requires : tie.Need-put-answer-requires
+put-answer-requires c κs = search needs
 
 put-requires : tie.Need-put-requires
 put-requires c κs = search needs
@@ -23,7 +23,7 @@ returns c =
     let p = c .before .before in
     let a = p .before .before .before .before in
     let r = a .before .before in
-    (record { minimal = r .read .result .minimal; mark = r .read .ensures .minimal; line = adds-then _ _ (a .answer .ensures .0 _ (r .read .ensures .answer)) (p .put .ensures) }, search needs)
+    (record { minimal = r .read .result .minimal; mark = r .read .ensures .minimal; line = adds-then _ _ (a .put-answer .ensures .0 _ (r .read .ensures .answer)) (p .put .ensures) }, search needs)
 
 pub line-spec : {M : Type 1} → statement M
-line-spec = tie.close (tie.spec read-requires answer-requires put-requires same-length returns)
+line-spec = tie.close (tie.spec read-requires put-answer-requires put-requires same-length returns)

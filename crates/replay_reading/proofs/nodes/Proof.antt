@@ -1,6 +1,6 @@
 -- `replay_reading::nodes` meets its contract: each node takes 18 bytes at most. Assumes nothing.
 use Prim.Native.Nat.{_+_, _*_, _≤_, _-_}
-use mathlib.Core.Path.{_≡_, refl, _∙_}
+use mathlib.Core.Path.{_≡_}
 use lib.ListN.{length}
 use borrow.Author.Needs.{needs}
 use Rattle.replay_reading.proofs.nodes.Statement.{statement}

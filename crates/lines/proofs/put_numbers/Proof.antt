@@ -1,4 +1,4 @@
--- `lines::figures` meets its contract. The invariant: the numbers passed are written, each in 21 bytes at most. Assumes nothing.
+-- `lines::put_numbers` meets its contract. The invariant: the numbers passed are written, each in 21 bytes at most. Assumes nothing.
 use Prim.Native.Nat.{ℕ, _+_, _*_, _≤_, _<_, _-_}
 use mathlib.Core.Path.{_≡_, refl, _∙_}
 use native.Mathlib.Omega.{arith}
@@ -7,8 +7,8 @@ use borrow.Author.Needs.{needs, below-field}
 use Rattle.lines.specs.Answers.{spaced}
 use Rattle.lines.specs.Written.{Adds}
 use Rattle.lines.proofs.Writing.{adds-none, adds-figure}
-use Rattle.lines.proofs.figures.Statement.{statement}
-use Rattle.lines.proofs.figures.Tie as tie
+use Rattle.lines.proofs.put_numbers.Statement.{statement}
+use Rattle.lines.proofs.put_numbers.Tie as tie
 
 abbrev Inv-loop : tie.InvT-loop
 Inv-loop out₀ at f count to₀ k₀ out to k =
@@ -56,8 +56,8 @@ returns c =
     let e : l .k ≡ c .before .before .before .args .t3 .count = omega arith in
     (rw e at (l .inv .3), omega arith)
 
-pub figures-spec : {M : Type 1} → statement M
-figures-spec =
+pub put-numbers-spec : {M : Type 1} → statement M
+put-numbers-spec =
     tie.close
     (tie.spec
     Inv-loop
