@@ -50,12 +50,13 @@ pub enum CdError {
     MissingNode { edge: usize },
 }
 
-// A refusal's number in document 01 and its fields, in the order given there.
+// A few numbers: the first `count` of `at`.
 pub struct Numbers {
     pub at: [usize; 4],
     pub count: usize,
 }
 
+// A refusal's number in document 01 and its fields, in the order given there.
 pub fn figures(e: CdError) -> Numbers
     ensures { λ r. ⌜ (take (r .count) (r .at) ≡ numberOf e) × (r .count ≤ 4) ⌝ }
 {
