@@ -13,7 +13,7 @@ pub struct Reading {
 pub fn read(text: &[u8]) -> Reading
     ensures { λ r. ⌜ Reads (now (text .entry)) r ⌝ }
 {
-    let r = parse::builder::parse(text);
+    let r = builder::parse(text);
     let a = r.answer;
     match a {
         Answer::Accepted => {

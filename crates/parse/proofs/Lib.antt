@@ -1,9 +1,6 @@
--- The laws of reading: nodes and references, the loop over the text, the tests before it, the queue; and the texts to try.
-mod Ahead
-mod NodeLaws
+-- The laws of reading: the loop over the text, the tests before it, the queue; and the texts to try.
 mod JoinLaws
 mod ReadLaws
 mod Turns
 pub mod Outcomes
-mod Walk
 mod TextsRight

@@ -23,15 +23,15 @@ use Rattle.scan.specs.declared.EdgeRead.{EdgeRead}
 use Rattle.scan.specs.declared.EdgeRead.the-variants as edge
 use Rattle.scan.proofs.Places.{edge-next}
 use Rattle.scan.proofs.Spaces.{skip-bounds}
-use Rattle.parse.specs.Nodes.{nodeAt}
+use Rattle.node.specs.Nodes.{nodeAt}
 use Rattle.parse.specs.Text.{Seen, start, Outcome, On, Refused, onto, Joint, Without, With, queued, taken, nodeIn, afterEdge, turn, turns, textFrom}
 use Rattle.parse.specs.Joining.{Joined, joinAll}
 use Rattle.parse.specs.Joining as joining
 use Rattle.parse.specs.Reading.{Reading, Accepted, withEdges, joined, high, readFrom, read}
 use Rattle.parse.specs.Reading as reading
-use Rattle.parse.specs.declared.node.NodeRead.{NodeRead}
-use Rattle.parse.specs.declared.node.NodeRead.the-variants as node
-use Rattle.parse.proofs.Ahead.{node-ahead, reference-ahead}
+use Rattle.node.specs.declared.NodeRead.{NodeRead}
+use Rattle.node.specs.declared.NodeRead.the-variants as node
+use Rattle.node.proofs.Ahead.{node-ahead, reference-ahead}
 
 -- reading goes on from lo or later, with at most `limit` nodes
 data Fine (lo : ℕ) : Outcome → Type 0 where

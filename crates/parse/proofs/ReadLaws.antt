@@ -7,7 +7,7 @@ use borrow.Author.Tests.{le-leb, lt-leb, lt-ltb, le-ltb}
 use lib.ListN.{length, getD, drop, drop-of-length-le}
 use Rattle.cd.specs.declared.CdError.the-variants.{TooLong, NotAscii, UnexpectedEnding}
 use Rattle.scan.specs.Spaces.{skip}
-use Rattle.parse.specs.Nodes.{nodeAt}
+use Rattle.node.specs.Nodes.{nodeAt}
 use Rattle.parse.specs.Text.{nodeIn, taken, textFrom}
 use Rattle.parse.specs.Text as text
 use Rattle.parse.specs.Reading.{Refused, joined, high, readFrom}

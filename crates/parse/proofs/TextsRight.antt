@@ -9,7 +9,7 @@ use Rattle.scan.specs.Bytes.{isDigit, isSpace}
 use Rattle.scan.specs.Spaces.{skip}
 use Rattle.scan.specs.Edges.{edgeAt}
 use Rattle.length.specs.Literals.{literalOf}
-use Rattle.parse.specs.Nodes.{nodeAt}
+use Rattle.node.specs.Nodes.{nodeAt}
 use Rattle.parse.specs.Text.{textFrom}
 use Rattle.parse.specs.Joining.{joinAll}
 use Rattle.parse.specs.Reading.{read}

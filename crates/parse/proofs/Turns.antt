@@ -29,9 +29,9 @@ use Rattle.scan.specs.Edges.{edgeAt}
 use Rattle.scan.specs.declared.EdgeRead.{EdgeRead}
 use Rattle.scan.specs.declared.EdgeRead.the-variants as edge
 use Rattle.scan.proofs.Places.{edge-next, edge-valid}
-use Rattle.parse.specs.Nodes.{nodeAt}
+use Rattle.node.specs.Nodes.{nodeAt}
 use Rattle.parse.specs.Text.{Seen, Outcome, On, Refused, onto, Joint, Without, With, queued, taken, nodeIn, afterEdge, turn, turns, textFrom}
-use Rattle.parse.proofs.Ahead.{node-ahead, reference-ahead}
+use Rattle.node.proofs.Ahead.{node-ahead, reference-ahead}
 use Rattle.parse.specs.Joining.{joinAll}
 use Rattle.parse.specs.Joining as joining
 use Rattle.parse.specs.Reading.{answer, joined, withEdges}
@@ -39,8 +39,8 @@ use Rattle.parse.specs.Reading as gives
 use Rattle.parse.specs.declared.Answer.the-variants.{Accepted}
 use Rattle.parse.specs.declared.Read.{Read}
 use Rattle.parse.specs.declared.Queue.{Queue}
-use Rattle.parse.specs.declared.node.NodeRead.{NodeRead}
-use Rattle.parse.specs.declared.node.NodeRead.the-variants as node
+use Rattle.node.specs.declared.NodeRead.{NodeRead}
+use Rattle.node.specs.declared.NodeRead.the-variants as node
 
 -- ---- what the locals stand for
 

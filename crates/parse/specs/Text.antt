@@ -16,9 +16,9 @@ use Rattle.scan.specs.Spaces.{skip}
 use Rattle.scan.specs.Edges.{edgeAt}
 use Rattle.scan.specs.declared.EdgeRead.{EdgeRead}
 use Rattle.scan.specs.declared.EdgeRead.the-variants as edge
-use Rattle.parse.specs.Nodes.{nodeAt}
-use Rattle.parse.specs.declared.node.NodeRead.{NodeRead}
-use Rattle.parse.specs.declared.node.NodeRead.the-variants as node
+use Rattle.node.specs.Nodes.{nodeAt}
+use Rattle.node.specs.declared.NodeRead.{NodeRead}
+use Rattle.node.specs.declared.NodeRead.the-variants as node
 
 -- what was read: the nodes, the edges that wait, and the last node or reference
 pub record Seen : Type 0 where

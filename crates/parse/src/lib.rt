@@ -16,8 +16,6 @@ ghost use lib.ListN.{length};
 ghost use Rattle.parse.specs.Text.{textFrom};
 ghost use Rattle.parse.specs.Reading.{Reading, joined, high, readFrom, answer};
 
-pub mod node; // node.rt: nodes and references
-pub mod builder; // builder.rt: the reader that holds the text
 
 // Edges wait here. A turn that adds one reads two bytes, so 128 places do for 255.
 pub struct Queue {

@@ -10,7 +10,7 @@ ghost use Rattle.parse_c.specs.Sizes.{accepted, nodes};
 pub extern "C" fn parse_answer(text: &[u8]) -> usize
     ensures { λ r. ⌜ r ≡ accepted (read (now (text .entry))) ⌝ }
 {
-    let r = parse::builder::parse(text);
+    let r = builder::parse(text);
     let a = r.answer;
     match a {
         Answer::Accepted => 1,
@@ -23,7 +23,7 @@ pub extern "C" fn parse_answer(text: &[u8]) -> usize
 pub extern "C" fn parse_nodes(text: &[u8]) -> usize
     ensures { λ r. ⌜ r ≡ nodes (read (now (text .entry))) ⌝ }
 {
-    let r = parse::builder::parse(text);
+    let r = builder::parse(text);
     let cd = r.cd;
     cd.count
 }

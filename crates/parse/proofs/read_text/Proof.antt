@@ -25,7 +25,7 @@ use Rattle.parse.proofs.read_text.Reads as reads
 use Rattle.parse.proofs.read_text.Lts as lts
 use Rattle.cd.proofs.indices.Reads as indices-reads
 use Rattle.cd.proofs.pair_place.Reads as pair-place-reads
-use Rattle.parse.proofs.node.create_node.Reads as create-node-reads
+use Rattle.node.proofs.create_node.Reads as create-node-reads
 use Rattle.parse.proofs.refused.Reads as refused-reads
 use Rattle.scan.proofs.create_edge.Reads as create-edge-reads
 use Rattle.scan.proofs.skip_whitespace.Reads as skip-whitespace-reads

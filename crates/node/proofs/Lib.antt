@@ -1,0 +1,3 @@
+-- The laws of nodes and references.
+pub mod Ahead
+mod NodeLaws

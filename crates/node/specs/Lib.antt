@@ -1,0 +1,2 @@
+-- Document 01, "Reading", the item "Node".
+pub mod Nodes
