@@ -16,7 +16,6 @@ ghost use lib.ListN.{length};
 ghost use Rattle.parse.specs.Text.{textFrom};
 ghost use Rattle.parse.specs.Reading.{Reading, joined, high, readFrom, answer};
 
-
 // Edges wait here. A turn that adds one reads two bytes, so 128 places do for 255.
 pub struct Queue {
     pub at: [EdgeRef; 128],
