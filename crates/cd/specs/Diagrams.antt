@@ -44,6 +44,9 @@ between k (s ∷ ss) i j = let r = between (k + 1) ss i j in pick (joins i j s) 
 abbrev pub limit : ℕ
 limit = 9
 
+abbrev pub pairLimit : ℕ
+pairLimit = limit * (limit + 1) / 2
+
 abbrev pub place : Node → Place
 place n = record { node = n }
 

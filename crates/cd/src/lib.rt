@@ -7,9 +7,14 @@ ghost use Rattle.cd.specs.Letters.{letterOf};
 ghost use Rattle.cd.specs.Edges.{isEdge, isTwo};
 ghost use Rattle.cd.specs.References.{indexOf, endsOf};
 ghost use Rattle.cd.specs.Refusals.{numberOf};
-ghost use Rattle.cd.specs.Diagrams.{placeOf};
+ghost use Rattle.cd.specs.Diagrams.{limit, pairLimit, placeOf};
 
 pub mod minimal; // minimal.rt: components, and whether a diagram is minimal
+
+// How many nodes a diagram has at most, and how many pairs, loops included.
+pub const LIMIT: usize = 9;
+
+pub const PAIRS: usize = 45;
 
 // Compared by match and by bits.
 pub enum Node {
@@ -103,9 +108,9 @@ pub struct Pair {
 
 // A diagram: its nodes in the order read, and a place for each pair, loops included.
 pub struct Cd {
-    pub nodes: [Place; 9],
+    pub nodes: [Place; LIMIT],
     pub count: usize,
-    pub pairs: [Pair; 45],
+    pub pairs: [Pair; PAIRS],
     pub edges: usize,
 }
 
@@ -224,8 +229,8 @@ pub fn indices(e: EdgeRef, len: usize) -> Ends
 
 // The place of a pair, loops included.
 pub fn pair_place(a: usize, b: usize) -> usize
-    requires { ⌜ (a < 9) × (b < 9) ⌝ }
-    ensures { λ r. ⌜ (r ≡ placeOf a b) × (r < 45) ⌝ }
+    requires { ⌜ (a < limit) × (b < limit) ⌝ }
+    ensures { λ r. ⌜ (r ≡ placeOf a b) × (r < pairLimit) ⌝ }
 {
     if a < b {
         b * (b + 1) / 2 + a

@@ -1,22 +1,24 @@
 // Components, and whether a diagram is minimal.
 use crate::Cd;
+use crate::LIMIT;
 use crate::Node;
+use crate::PAIRS;
 use crate::Place;
 ghost use mathlib.Core.List.{List};
 ghost use mathlib.Core.Path.{_≡_};
 ghost use Prim.Native.Nat.{ℕ, _+_, _<_, _≤_};
 ghost use lib.ListN.{length};
-ghost use Rattle.cd.specs.Diagrams.{Stored, cdOf};
+ghost use Rattle.cd.specs.Diagrams.{Stored, limit, cdOf};
 ghost use Rattle.cd.specs.Paths.{Labelled};
 ghost use Rattle.cd.specs.Labels.{joinedIn, Marked, labelIn, instead, Partway};
 ghost use Rattle.cd.specs.Minimal.{isRinged, Linked, Minimal, Decides};
 
 // Of each pair, loops included, whether an edge is stored.
-pub fn marks(cd: Cd) -> [bool; 45]
+pub fn marks(cd: Cd) -> [bool; PAIRS]
     ensures { λ r. ⌜ r ≡ joinedIn (cd .pairs) ⌝ }
 {
-    let mut out = [false; 45];
-    for p in 0..45 {
+    let mut out = [false; PAIRS];
+    for p in 0..PAIRS {
         let pair = cd.pairs[p];
         out[p] = 0 < pair.rank;
     }
@@ -24,11 +26,11 @@ pub fn marks(cd: Cd) -> [bool; 45]
 }
 
 // The labels with `to` in the place of `from`.
-pub fn relabelled(of: [usize; 9], from: usize, to: usize) -> [usize; 9]
-    ensures { λ r. ⌜ ((k : ℕ) → k < 9 → labelIn r k ≡ instead from to (labelIn of k)) ⌝ }
+pub fn relabelled(of: [usize; LIMIT], from: usize, to: usize) -> [usize; LIMIT]
+    ensures { λ r. ⌜ ((k : ℕ) → k < limit → labelIn r k ≡ instead from to (labelIn of k)) ⌝ }
 {
     let mut out = of;
-    for k in 0..9 {
+    for k in 0..LIMIT {
         if out[k] == from {
             out[k] = to;
         }
@@ -37,8 +39,14 @@ pub fn relabelled(of: [usize; 9], from: usize, to: usize) -> [usize; 9]
 }
 
 // The labels once the pair i, j is met: if an edge joins it, the two components become one, and have the lesser label.
-pub fn met(marks: &[bool; 45], n: usize, of: [usize; 9], i: usize, j: usize) -> [usize; 9]
-    requires { ⌜ (i < j) × (j < n) × (n ≤ 9) × Partway (Marked n (now marks)) n j i (labelIn of) ⌝ }
+pub fn met(
+    marks: &[bool; PAIRS],
+    n: usize,
+    of: [usize; LIMIT],
+    i: usize,
+    j: usize,
+) -> [usize; LIMIT]
+    requires { ⌜ (i < j) × (j < n) × (n ≤ limit) × Partway (Marked n (now marks)) n j i (labelIn of) ⌝ }
     ensures { λ r. ⌜ Partway (Marked n (now (marks .entry))) n j (i + 1) (labelIn r) ⌝ }
 {
     if marks[crate::pair_place(i, j)] {
@@ -55,8 +63,8 @@ pub fn met(marks: &[bool; 45], n: usize, of: [usize; 9], i: usize, j: usize) -> 
 }
 
 // The labels once the pairs of row j are met.
-pub fn row_met(marks: &[bool; 45], n: usize, of: [usize; 9], j: usize) -> [usize; 9]
-    requires { ⌜ (j < n) × (n ≤ 9) × Partway (Marked n (now marks)) n j 0 (labelIn of) ⌝ }
+pub fn row_met(marks: &[bool; PAIRS], n: usize, of: [usize; LIMIT], j: usize) -> [usize; LIMIT]
+    requires { ⌜ (j < n) × (n ≤ limit) × Partway (Marked n (now marks)) n j 0 (labelIn of) ⌝ }
     ensures { λ r. ⌜ Partway (Marked n (now (marks .entry))) n (j + 1) 0 (labelIn r) ⌝ }
 {
     let mut out = of;
@@ -68,8 +76,8 @@ pub fn row_met(marks: &[bool; 45], n: usize, of: [usize; 9], j: usize) -> [usize
 }
 
 // Each node's component, named by its lowest node, of n nodes whose pairs are marked.
-pub fn labels(marks: &[bool; 45], n: usize) -> [usize; 9]
-    requires { ⌜ n ≤ 9 ⌝ }
+pub fn labels(marks: &[bool; PAIRS], n: usize) -> [usize; LIMIT]
+    requires { ⌜ n ≤ limit ⌝ }
     ensures { λ r. ⌜ Labelled (Marked n (now (marks .entry))) n (labelIn r) ⌝ }
 {
     let mut of = [0usize, 1, 2, 3, 4, 5, 6, 7, 8];
@@ -81,8 +89,8 @@ pub fn labels(marks: &[bool; 45], n: usize) -> [usize; 9]
 }
 
 // Each node's component, named by its lowest node.
-pub fn components(cd: Cd) -> [usize; 9]
-    requires { ⌜ cd .count ≤ 9 ⌝ }
+pub fn components(cd: Cd) -> [usize; LIMIT]
+    requires { ⌜ cd .count ≤ limit ⌝ }
     ensures { λ r. ⌜ ((ns : List Node) (es : List Stored) → cd ≡ cdOf ns es → Labelled (Linked (length ns) es) (length ns) (labelIn r)) ⌝ }
 {
     let m = marks(cd);
@@ -102,7 +110,7 @@ pub fn is_ringed(p: Place) -> bool
 
 // Whether each component has a ringed node.
 pub fn minimal(cd: Cd) -> bool
-    requires { ⌜ cd .count ≤ 9 ⌝ }
+    requires { ⌜ cd .count ≤ limit ⌝ }
     ensures { λ r. ⌜ ((ns : List Node) (es : List Stored) → cd ≡ cdOf ns es → Decides (Minimal ns es) r) ⌝ }
 {
     let of = components(cd);

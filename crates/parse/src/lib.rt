@@ -4,8 +4,10 @@ use cd::CdError;
 use cd::Edge;
 use cd::EdgeRef;
 use cd::Ends;
+use cd::LIMIT;
 use cd::Node;
 use cd::NodeRef;
+use cd::PAIRS;
 use cd::Pair;
 use cd::Place;
 use node::NodeRead;
@@ -46,9 +48,9 @@ pub fn refused(r: CdError) -> Read
     Read {
         answer: Answer::Refused(r),
         cd: Cd {
-            nodes: [place; 9],
+            nodes: [place; LIMIT],
             count: 0,
-            pairs: [none; 45],
+            pairs: [none; PAIRS],
             edges: 0,
         },
     }
@@ -70,7 +72,7 @@ pub fn read_text(s: &[u8], start: usize) -> Read
         other: first,
         edge: none,
     };
-    let mut nodes = [place; 9];
+    let mut nodes = [place; LIMIT];
     let mut count = 0;
     let mut queue = Queue {
         at: [blank; 128],
@@ -93,7 +95,7 @@ pub fn read_text(s: &[u8], start: usize) -> Read
                 next = to;
             }
             NodeRead::Added(n, to) => {
-                if 9 <= count {
+                if LIMIT <= count {
                     return refused(CdError::TooManyNodes { pos: i });
                 }
                 this = NodeRef::Absolute(count as u8);
@@ -134,7 +136,7 @@ pub fn read_text(s: &[u8], start: usize) -> Read
         rank: 0,
         edge: none,
     };
-    let mut pairs = [apart; 45];
+    let mut pairs = [apart; PAIRS];
     let mut edges: usize = 0;
     let waiting = queue.count;
     let mut k = 0;

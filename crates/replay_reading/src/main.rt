@@ -6,7 +6,7 @@ use cd::Pair;
 ghost use Prim.Native.Nat.{_+_, _≤_, _<_};
 ghost use mathlib.Core.Path.{_≡_};
 ghost use lib.ListN.{length};
-ghost use Rattle.cd.specs.Diagrams.{placeOf};
+ghost use Rattle.cd.specs.Diagrams.{pairLimit, placeOf};
 
 // A value's bits, or 0 for a NaN, which no text gives.
 fn bits(v: f64) -> u64 {
@@ -47,7 +47,7 @@ fn nodes(out: &mut [u8], at: usize, cd: Cd) -> usize
     let mut to = at;
     let mut i = 0;
     // Both limits are tested, so that no law of the reader is needed; and so below.
-    while i < 9 {
+    while i < cd::LIMIT {
         if count <= i {
             return to;
         }
@@ -67,7 +67,7 @@ struct Ends {
 
 // The pair at a place: row b has b + 1 of them, and a is what is left once the rows before it are taken off.
 fn pair_at(p: usize) -> Ends
-    requires { ⌜ p < 45 ⌝ }
+    requires { ⌜ p < pairLimit ⌝ }
     ensures { λ r. ⌜ (placeOf (r .a) (r .b) ≡ p) × (r .a ≤ r .b) ⌝ }
 {
     let mut a = p;
@@ -80,7 +80,7 @@ fn pair_at(p: usize) -> Ends
 }
 
 fn edge(out: &mut [u8], at: usize, p: usize, e: Edge) -> usize
-    requires { ⌜ (at + 84 ≤ length (now out)) × (p < 45) ⌝ }
+    requires { ⌜ (at + 84 ≤ length (now out)) × (p < pairLimit) ⌝ }
     ensures { λ r. ⌜ r ≤ at + 84 ⌝ }
 {
     let j = pair_at(p);
@@ -90,12 +90,12 @@ fn edge(out: &mut [u8], at: usize, p: usize, e: Edge) -> usize
     lines::put_number(out, to, b'/', e.den as u64)
 }
 
-// The place of the edge that was stored as the rank-th, or 45.
-fn stored(pairs: [Pair; 45], rank: u32) -> usize
-    ensures { λ r. ⌜ r ≤ 45 ⌝ }
+// The place of the edge that was stored as the rank-th, or PAIRS.
+fn stored(pairs: [Pair; cd::PAIRS], rank: u32) -> usize
+    ensures { λ r. ⌜ r ≤ pairLimit ⌝ }
 {
     let mut p = 0;
-    while p < 45 {
+    while p < cd::PAIRS {
         let x = pairs[p];
         if x.rank == rank {
             return p;
@@ -105,7 +105,7 @@ fn stored(pairs: [Pair; 45], rank: u32) -> usize
     p
 }
 
-fn edges(out: &mut [u8], at: usize, pairs: [Pair; 45]) -> usize
+fn edges(out: &mut [u8], at: usize, pairs: [Pair; cd::PAIRS]) -> usize
     requires { ⌜ at + 3780 ≤ length (now out) ⌝ }
     ensures { λ r. ⌜ r ≤ at + 3780 ⌝ }
 {
@@ -113,7 +113,7 @@ fn edges(out: &mut [u8], at: usize, pairs: [Pair; 45]) -> usize
     let mut k: u32 = 0;
     while k < 45 {
         let p = stored(pairs, k + 1);
-        if 45 <= p {
+        if cd::PAIRS <= p {
             return to;
         }
         let x = pairs[p];
