@@ -1,8 +1,8 @@
--- Document 01, "What each operation refuses", Text: each refusal's number and fields, in the order given there.
+-- Document 01, "What each operation refuses": each refusal's number and fields, in the order given there.
 use Prim.Native.Nat.{ℕ}
 use mathlib.Core.List.{List, [], _∷_}
 use Rattle.cd.specs.declared.CdError.{CdError}
-use Rattle.cd.specs.declared.CdError.the-variants.{TooLong, NotAscii, MismatchedParenthesis, UnexpectedEnding, ParseError, InvalidSymbol, InvalidEdge, RepeatEdge, OutOfRange, TooManyNodes, MissingNode}
+use Rattle.cd.specs.declared.CdError.the-variants.{TooLong, NotAscii, MismatchedParenthesis, UnexpectedEnding, ParseError, InvalidSymbol, InvalidEdge, RepeatEdge, OutOfRange, TooManyNodes, MissingNode, ShortBuffer, RecordLength, NoDiagram}
 
 unfoldable pub numberOf : CdError → List ℕ
 numberOf (TooLong pos) = 1 ∷ pos ∷ []
@@ -16,3 +16,6 @@ numberOf (RepeatEdge a b) = 8 ∷ a ∷ b ∷ []
 numberOf (OutOfRange pos) = 9 ∷ pos ∷ []
 numberOf (TooManyNodes pos) = 10 ∷ pos ∷ []
 numberOf (MissingNode edge) = 11 ∷ edge ∷ []
+numberOf ShortBuffer = 12 ∷ []
+numberOf RecordLength = 13 ∷ []
+numberOf NoDiagram = 14 ∷ []

@@ -40,7 +40,7 @@ pub struct EdgeRef {
     pub edge: Edge,
 }
 
-// What a text is refused with; document 01's numbers are `numberOf` in specs/Refusals.antt.
+// What a text, a buffer or a record is refused with; document 01's numbers are `numberOf` in specs/Refusals.antt.
 pub enum CdError {
     TooLong { pos: usize },
     NotAscii { pos: usize },
@@ -53,6 +53,9 @@ pub enum CdError {
     OutOfRange { pos: usize },
     TooManyNodes { pos: usize },
     MissingNode { edge: usize },
+    ShortBuffer,
+    RecordLength,
+    NoDiagram,
 }
 
 // A few numbers: the first `count` of `at`.
@@ -83,6 +86,9 @@ pub fn figures(e: CdError) -> Numbers
         CdError::OutOfRange { pos } => one_field(9, pos),
         CdError::TooManyNodes { pos } => one_field(10, pos),
         CdError::MissingNode { edge } => one_field(11, edge),
+        CdError::ShortBuffer => no_field(12),
+        CdError::RecordLength => no_field(13),
+        CdError::NoDiagram => no_field(14),
     }
 }
 
@@ -92,6 +98,15 @@ fn one_field(number: usize, field: usize) -> Numbers
     Numbers {
         at: [number, field, 0, 0],
         count: 2,
+    }
+}
+
+fn no_field(number: usize) -> Numbers
+    ensures { λ r. ⌜ (take (r .count) (r .at) ≡ number ∷ []) × (r .count ≤ 4) ⌝ }
+{
+    Numbers {
+        at: [number, 0, 0, 0],
+        count: 1,
     }
 }
 

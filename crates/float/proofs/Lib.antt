@@ -1,7 +1,7 @@
 -- The laws that the functions' proofs share, and the theorem on the root.
 mod Table
 mod Powers
-mod RoundedOnce
+pub mod RoundedOnce
 mod Steps
 mod Nearest
 mod Ties

@@ -1,1 +1,5 @@
 mod Answers
+mod SoundNodes
+mod Sound
+mod Fileable
+pub mod Demand3

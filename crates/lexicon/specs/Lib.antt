@@ -1,2 +1,4 @@
 -- What the public calls promise.
 pub mod Reads
+pub mod Files
+pub mod ReadsRecord

@@ -1,8 +1,13 @@
 // The public calls. None has a `requires`: any input ends with an answer or a refusal.
 use cd::Cd;
+use cd::CdError;
+use cd::LIMIT;
 use parse::Answer;
 use parse::Read;
+ghost use mathlib.Core.Path.{_≡_};
+ghost use Rattle.lexicon.specs.Files.{refusal as the-refusal, Files};
 ghost use Rattle.lexicon.specs.Reads.{Reads};
+ghost use Rattle.lexicon.specs.ReadsRecord.{ReadsRecord};
 
 // A text's diagram, or what refuses it, and whether the diagram is minimal.
 pub struct Reading {
@@ -28,4 +33,52 @@ pub fn read(text: &[u8]) -> Reading
             minimal: false,
         },
     }
+}
+
+// That a record was written, or what refuses it; and the numbering that gives the record: for each of the first `count` places its old node.
+pub struct Filed {
+    pub answer: Answer,
+    pub numbering: [usize; LIMIT],
+    pub count: usize,
+}
+
+fn refusal(e: CdError) -> Filed
+    ensures { λ r. ⌜ r ≡ the-refusal e ⌝ }
+{
+    let plain = search::plain();
+    Filed {
+        answer: Answer::Refused(e),
+        numbering: plain,
+        count: 0,
+    }
+}
+
+// The filing record of a text's diagram, in the first 370 bytes of the buffer.
+pub fn write_record(text: &[u8], out: &mut [u8]) -> Filed
+    ensures { λ r. ⌜ Files (now (text .entry)) (now (out .entry)) (now (out .exit)) r ⌝ }
+{
+    let r = builder::parse(text);
+    let a = r.answer;
+    match a {
+        Answer::Accepted => {
+            if out.len() < records::RECORD {
+                return refusal(CdError::ShortBuffer);
+            }
+            let cd = r.cd;
+            let numbering = records::write(cd, out);
+            Filed {
+                answer: a,
+                numbering: numbering,
+                count: cd.count,
+            }
+        }
+        Answer::Refused(e) => refusal(e),
+    }
+}
+
+// The diagram that has these bytes for its record, in the record's own numbering.
+pub fn read_record(bytes: &[u8]) -> Read
+    ensures { λ r. ⌜ ReadsRecord (now (bytes .entry)) r ⌝ }
+{
+    readback::read(bytes)
 }

@@ -73,7 +73,7 @@ unfoldable pub turn : List ℕ → ℕ → Seen → Outcome
 unfolding afterEdge
 turn s at st = afterEdge (edgeAt s at) s at st
 
--- "while bytes remain", for at most so many turns: each reads a byte, and `proofs/Turns.antt` shows that the length of the text is enough
+-- "while bytes remain", for at most so many turns: each reads a byte, and `whole-text` in proofs/Outcomes.antt says that the length of the text is enough
 unfoldable pub turns : ℕ → List ℕ → ℕ → Seen → Outcome
 unfolding turn
 turns zero s at st = On at st

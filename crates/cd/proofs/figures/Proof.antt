@@ -70,6 +70,24 @@ enum-known-e-11 c = search needs
 one-field-requires-9 : tie.Need-one-field-requires-9
 one-field-requires-9 c κs = search needs
 
+enum-told : tie.Need-enum-told
+enum-told c = search needs
+
+no-field-requires : tie.Need-no-field-requires
+no-field-requires c κs = search needs
+
+enum-told-2 : tie.Need-enum-told-2
+enum-told-2 c = search needs
+
+no-field-requires-2 : tie.Need-no-field-requires-2
+no-field-requires-2 c κs = search needs
+
+enum-told-3 : tie.Need-enum-told-3
+enum-told-3 c = search needs
+
+no-field-requires-3 : tie.Need-no-field-requires-3
+no-field-requires-3 c κs = search needs
+
 returns : tie.Need-returns
 unfolding numberOf
 returns c = rw (c .before .before .e .given .1) (c .one-field .ensures)
@@ -114,6 +132,18 @@ returns-11 : tie.Need-returns-11
 unfolding numberOf
 returns-11 c = rw (c .before .before .e11 .given .1) (c .one-field9 .ensures)
 
+returns-12 : tie.Need-returns-12
+unfolding numberOf
+returns-12 c = rw (c .before .enum-told .given .1) (c .no-field .ensures)
+
+returns-13 : tie.Need-returns-13
+unfolding numberOf
+returns-13 c = rw (c .before .enum-told2 .given .1) (c .no-field2 .ensures)
+
+returns-14 : tie.Need-returns-14
+unfolding numberOf
+returns-14 c = rw (c .before .enum-told3 .given .1) (c .no-field3 .ensures)
+
 pub figures-spec : {M : Type 1} → statement M
 figures-spec =
     tie.close
@@ -140,6 +170,12 @@ figures-spec =
     one-field-requires-8
     enum-known-e-11
     one-field-requires-9
+    enum-told
+    no-field-requires
+    enum-told-2
+    no-field-requires-2
+    enum-told-3
+    no-field-requires-3
     returns
     returns-2
     returns-3
@@ -150,4 +186,7 @@ figures-spec =
     returns-8
     returns-9
     returns-10
-    returns-11)
+    returns-11
+    returns-12
+    returns-13
+    returns-14)

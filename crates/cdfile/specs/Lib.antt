@@ -1,0 +1,2 @@
+-- What the program `cdfile` writes on a text.
+pub mod Shown

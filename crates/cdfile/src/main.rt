@@ -1,0 +1,97 @@
+// The editor's program `cdfile`: a text a line, read as `cdlist` reads them, and on each its filing record and the numbering that
+// gives it. Lines with the same record are one figure.
+use cd::LIMIT;
+use lexicon::Filed;
+use parse::Answer;
+use records::RECORD;
+ghost use mathlib.Core.List.{map};
+ghost use mathlib.Core.Path.{_≡_};
+ghost use Prim.Native.Nat.{ℕ, _+_, _*_, _≤_, _<_};
+ghost use lib.ListN.{length, getD, take};
+ghost use Rattle.cd.specs.Diagrams.{limit};
+ghost use Rattle.cdfile.specs.Shown.{hexGlyph, hexes, shown, Shows};
+ghost use Rattle.lines.specs.Answers.{glyph as the-glyph};
+ghost use Rattle.lines.specs.Written.{Adds};
+
+fn glyph(d: u8) -> u8
+    requires { ⌜ d < 16 ⌝ }
+    ensures { λ r. ⌜ r ≡ hexGlyph d ⌝ }
+{
+    if d < 10 {
+        return b'0' + d;
+    }
+    b'a' + (d - 10)
+}
+
+fn put_hexes(out: &mut [u8], at: usize, s: &[u8]) -> usize
+    requires { ⌜ at + 2 * length (now s) ≤ length (now out) ⌝ }
+    ensures { λ r. ⌜ Adds (now (out .entry)) at (now (out .exit)) r (hexes (now (s .entry))) × (r ≡ at + 2 * length (now (s .entry))) ⌝ }
+{
+    let mut to = at;
+    let mut i = 0;
+    while i < s.len() {
+        to = lines::put(out, to, glyph(s[i] / 16));
+        to = lines::put(out, to, glyph(s[i] % 16));
+        i += 1;
+    }
+    to
+}
+
+fn put_numbering(out: &mut [u8], at: usize, p: [usize; LIMIT], n: usize) -> usize
+    requires { ⌜ (n ≤ limit) × ((i : ℕ) → i < n → getD p i 0 < 10) × (at + 9 ≤ length (now out)) ⌝ }
+    ensures { λ r. ⌜ Adds (now (out .entry)) at (now (out .exit)) r (map the-glyph (take n p)) × (r ≤ at + 9) ⌝ }
+{
+    let mut to = at;
+    let mut i = 0;
+    while i < n {
+        to = lines::put(out, to, b'0' + p[i] as u8);
+        i += 1;
+    }
+    to
+}
+
+// What is written of an answer, with the record's bytes.
+fn put_filed(out: &mut [u8], at: usize, r: Filed, bytes: &[u8]) -> usize
+    requires { ⌜ (r .count ≤ limit) × ((i : ℕ) → i < r .count → getD (r .numbering) i 0 < 10) × (length (now bytes) ≡ 370) × (at + 753 ≤ length (now out)) ⌝ }
+    ensures { λ to. ⌜ Adds (now (out .entry)) at (now (out .exit)) to (shown (r .answer) (now (bytes .entry)) (take (r .count) (r .numbering))) × (to ≤ at + 753) ⌝ }
+{
+    let a = r.answer;
+    match a {
+        Answer::Accepted => {
+            let mut to = lines::put_all(out, at, b"ok ");
+            to = put_hexes(out, to, bytes);
+            to = lines::put(out, to, b' ');
+            let p = r.numbering;
+            put_numbering(out, to, p, r.count)
+        }
+        Answer::Refused(e) => {
+            let to = lines::put_all(out, at, b"no");
+            lines::put_numbers(out, to, cd::figures(e))
+        }
+    }
+}
+
+fn line(text: &[u8], out: &mut [u8], at: usize) -> usize
+    requires { ⌜ at + 754 ≤ length (now out) ⌝ }
+    ensures { λ r. ⌜ Shows (now (text .entry)) (now (out .entry)) at (now (out .exit)) r × (r ≤ at + 754) ⌝ }
+{
+    let mut bytes = [0u8; RECORD];
+    let r = lexicon::write_record(text, &mut bytes);
+    let to = put_filed(out, at, r, &bytes);
+    lines::put(out, to, b'\n')
+}
+
+fn main() {
+    let mut text = io::large_buffer();
+    let n = io::read_full(0, &mut text);
+    let mut out = lines::buffer();
+    let mut at = 0;
+    let mut from = 0;
+    while from < n {
+        let end = lines::line_end(&text[..n], from);
+        at = line(&text[from..end], &mut out, at);
+        at = lines::flushed(&out, at);
+        from = end + 1;
+    }
+    io::write_all(1, &out[..at]);
+}

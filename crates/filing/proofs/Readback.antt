@@ -1,0 +1,123 @@
+-- The diagram that a layout spells shows in its own order what the filed one shows under the layout's numbering, so that its layouts are the filed one's. So
+-- bytes are a record exactly when the diagram that they spell is one and has them for its record. Assumes nothing.
+use mathlib.Core.List.{List, _∷_, _++_, []}
+use mathlib.Core.Logic.{_≢_, _↔_}
+use mathlib.Core.Path.{_≡_, refl, sym, ap, _∙_, subst}
+use Prim.Native.Nat.{ℕ, _+_, _*_, _^_, _<_}
+use native.Mathlib.Decide.{decLt}
+use native.Mathlib.Nat.{add-zero, min-eq-left, max-eq-right, min-comm, max-comm, le-of-lt}
+use native.Mathlib.Omega.{arith}
+use lib.ListN.{getD, take, drop}
+use lib.Seq.{getD-at}
+use Rattle.filing.specs.Bytes.{bytes, value}
+use Rattle.filing.specs.Diagrams.{Node, Diagram, IsNode, IsEdge, IsDiagram, Carries}
+use Rattle.filing.specs.Fractions.{Fraction, SameFraction, lowest}
+use Rattle.filing.specs.Numberings.{Numbering}
+use Rattle.filing.specs.Readable.{Readable, numberAt, nodeAt, pairPlace, fractionAt, spelled}
+use Rattle.filing.specs.Records.{nodeLength, nodeBytes, pairBytes, layout, IsRecord}
+use Rattle.filing.proofs.Bytes.{length-bytes, value-bytes}
+use Rattle.filing.proofs.Filing.{carried, layout-same}
+use Rattle.filing.proofs.Gcd.{lowest-is-same}
+use Rattle.filing.proofs.Layouts.{lowest-edge}
+use Rattle.filing.proofs.Numberings.{identity, compose, differ}
+use Rattle.filing.proofs.Places.{Placed, placed-read, placed-whole, placed-left, placed-right, placed-in, placed-at, node-placed, pair-placed}
+
+-- ---- reading what is placed
+
+number-read : {l : List ℕ} {k : ℕ} (w x : ℕ) → x < 256 ^ w → Placed l k (bytes w x) → numberAt w l k ≡ x
+unfolding numberAt
+number-read {l} {k} w x h p = ap value (subst (λ n. take n (drop k l) ≡ bytes w x) (length-bytes w x) (placed-read p)) ∙ value-bytes w x h
+
+head-read : {l : List ℕ} {k x : ℕ} {xs : List ℕ} → Placed l k (x ∷ xs) → getD l k 0 ≡ x
+head-read {l} {k} {x} {xs} p = rw (p .cut) (getD-at (p .before) x (xs ++ p .after) 0 k (p .place))
+
+node-read : {l : List ℕ} (i : ℕ) {v : Node} → IsNode v → Placed l (1 + nodeLength * i) (nodeBytes v) → nodeAt l i ≡ v
+unfolding nodeAt nodeBytes
+node-read i {v} h p =
+    let kind = head-read p in
+    let bits = number-read 8 (v .bits) (h .bits-fit) (placed-in p (placed-right (v .kind ∷ []) (placed-whole (bytes 8 (v .bits))))) in
+    λ t. record { kind = kind t; bits = bits t }
+
+fraction-read : {l : List ℕ} {k : ℕ} {x : Fraction} → IsEdge x → Placed l k (pairBytes x) → fractionAt l k ≡ lowest x
+unfolding fractionAt pairBytes
+fraction-read {l} {k} {x} h p =
+    let lx = lowest-edge h in
+    let first : List ℕ = bytes 4 (lowest x .num) in
+    let second : List ℕ = bytes 4 (lowest x .den) in
+    let num = number-read 4 (lowest x .num) (lx .fits) (placed-at (add-zero k) (placed-in p (placed-left (placed-whole first) second))) in
+    let den = number-read {k = k + 4} 4 (lowest x .den) (omega (arith, lx)) (placed-in p (placed-right first (placed-whole second))) in
+    λ i. record { num = num i; den = den i }
+
+-- ---- the diagram read back
+
+pub pairPlace-comm : (N i j : ℕ) → pairPlace N i j ≡ pairPlace N j i
+unfolding pairPlace
+pairPlace-comm N i j = rw (min-comm i j, max-comm i j)
+
+module _ (N : ℕ) {d : Diagram} (w : IsDiagram N d) {p : ℕ → ℕ} (np : Numbering (d .size) p) where
+  pub read-node : (i : ℕ) → i < d .size → spelled N (layout N d p) .node i ≡ d .node (p i)
+  unfolding spelled
+  read-node i h = node-read i (w .nodes (p i) (np .within i h)) (node-placed N w p i h)
+
+  read-pair : (i j : ℕ) → i < j → j < d .size → fractionAt (layout N d p) (pairPlace N i j) ≡ lowest (d .edge (p i) (p j))
+  unfolding pairPlace
+  read-pair i j h k =
+      let hi : i < d .size = omega arith in
+      rw (min-eq-left (le-of-lt h), max-eq-right (le-of-lt h))
+      (fraction-read (w .edges (p i) (p j) (np .within i hi) (np .within j k) (differ np hi k (omega arith))) (pair-placed N w p i j h k))
+
+  pub read-edge : (i j : ℕ) → i < d .size → j < d .size → i ≢ j → spelled N (layout N d p) .edge i j ≡ lowest (d .edge (p i) (p j))
+  unfolding spelled
+  read-edge i j hi hj ne = go (decLt i j)
+    where
+      go : Dec (i < j) → fractionAt (layout N d p) (pairPlace N i j) ≡ lowest (d .edge (p i) (p j))
+      go (yes h) = read-pair i j h hj
+      go (no h) =
+          ap (fractionAt (layout N d p)) (pairPlace-comm N i j) ∙ read-pair j i (omega arith) hi
+          ∙ ap lowest (w .symmetric (p j) (p i) (np .within j hj) (np .within i hi) (differ np hj hi (omega arith)))
+
+  pub read-is-diagram : IsDiagram N (spelled N (layout N d p))
+  unfolding spelled layout
+  read-is-diagram = record {
+    few = w .few;
+    nodes = λ i h. subst IsNode (sym (read-node i h)) (w .nodes (p i) (np .within i h));
+    edges = λ i j hi hj ne. subst IsEdge (sym (read-edge i j hi hj ne)) (lowest-edge (w .edges (p i) (p j) (np .within i hi) (np .within j hj) (differ np hi hj ne)));
+    symmetric = λ i j hi hj ne. ap (fractionAt (layout N d p)) (pairPlace-comm N i j);
+  }
+
+  pub read-carries : Carries (spelled N (layout N d p)) d p
+  unfolding spelled layout
+  read-carries = record {
+    size = refl;
+    numbering = np;
+    nodes = read-node;
+    edges = λ i j hi hj ne. subst (λ x. SameFraction x (d .edge (p i) (p j))) (sym (read-edge i j hi hj ne)) (lowest-is-same (d .edge (p i) (p j)));
+  }
+
+  -- its layouts are d's
+  read-layout : {q : ℕ → ℕ} → Numbering (d .size) q → layout N (spelled N (layout N d p)) q ≡ layout N d (λ i. p (q i))
+  unfolding spelled layout
+  read-layout nq = layout-same N read-is-diagram w nq (compose np nq) (carried read-carries nq)
+
+  read-record : IsRecord N d (layout N d p) → IsRecord N (spelled N (layout N d p)) (layout N d p)
+  unfolding spelled layout
+  read-record r = record {
+    numbering = λ i. i;
+    valid = identity (d .size);
+    laid = sym (read-layout (identity (d .size)));
+    least = λ q nq. rw (read-layout nq) (r .least (λ i. p (q i)) (compose np nq));
+  }
+
+-- ---- records read back
+
+pub spelled-laid : (N : ℕ) (l : List ℕ) → Readable N l → layout N (spelled N l) (λ i. i) ≡ l
+spelled-laid N l (d, w, r) = subst (λ z. layout N (spelled N z) (λ i. i) ≡ z) (sym (r .laid)) (read-layout N w (r .valid) (identity (d .size)))
+
+-- BYTES ARE A RECORD EXACTLY WHEN THE DIAGRAM THAT THEY SPELL IS ONE AND HAS THEM FOR ITS RECORD
+pub is-record-iff : (N : ℕ) (l : List ℕ) → Readable N l ↔ (IsDiagram N (spelled N l) × IsRecord N (spelled N l) l)
+is-record-iff N l = (to, λ r. (spelled N l, r .0, r .1))
+  where
+    to : Readable N l → IsDiagram N (spelled N l) × IsRecord N (spelled N l) l
+    to (d, w, r) =
+        subst (λ z. IsDiagram N (spelled N z) × IsRecord N (spelled N z) z) (sym (r .laid))
+        (read-is-diagram N w (r .valid), read-record N w (r .valid) (subst (IsRecord N d) (r .laid) r))

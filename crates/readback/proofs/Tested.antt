@@ -1,0 +1,59 @@
+-- What the two tests of a record tell, of bytes that spell a diagram which tables hold: bytes that are not its layout as they stand, or not its smallest one,
+-- are no record; bytes that are its smallest layout are read back as it. Assumes nothing.
+use mathlib.Core.List.{List}
+use mathlib.Core.Path.{_≡_, sym, _∙_, subst, subst₂}
+use Prim.Native.Nat.{ℕ, _≤_}
+use native.Mathlib.Omega.{arith}
+use Rattle.filing.specs.Bytes.{_≼_}
+use Rattle.filing.specs.Diagrams.{IsDiagram}
+use Rattle.filing.specs.Numberings.{Numbering, at, plain}
+use Rattle.filing.specs.Readable.{Readable, spelled}
+use Rattle.filing.specs.Records.{layout}
+use Rattle.filing.proofs.Layouts.{layout-local}
+use Rattle.filing.proofs.Searching.{at-plain, plain-front}
+use Rattle.parse.specs.Reading.{Accepted}
+use Rattle.search.specs.Search.{Smallest}
+use Rattle.tables.specs.Tables.{Holds, tableLayout}
+use Rattle.tables.specs.declared.Tables.{Tables}
+use Rattle.tables.proofs.TableLayouts.{table-layout}
+use Rattle.readback.specs.ReadBack.{ReadBack}
+use Rattle.readback.specs.Spelled.{nodesIn, edgesIn}
+use Rattle.readback.proofs.SpelledLaws.{readBack, spelled-is-diagram}
+use Rattle.readback.proofs.ReadBackLaws.{readable-laid, readable-smallest, smallest-read}
+
+module _ (N : ℕ) (l : List ℕ) (w : IsDiagram N (spelled N l)) (t : Tables) (held : Holds N t (readBack N l)) where
+  abbrev laid : (ℕ → ℕ) → List ℕ
+  laid p = tableLayout N (t .count) (t .kinds) (t .bits) (t .pairs) p
+
+  is : IsDiagram N (readBack N l)
+  is = spelled-is-diagram N l w
+
+  pub tables-few : t .count ≤ N
+  tables-few = omega (arith, held .count, is .few)
+
+  pub plain-numbers : Numbering (t .count) (at (plain N))
+  plain-numbers = plain-front tables-few .valid
+
+  -- a numbering by the tables' count numbers the diagram's nodes, and the layouts are the same
+  numbers : {p : ℕ → ℕ} → Numbering (t .count) p → Numbering (readBack N l .size) p
+  numbers np = rw (held .count) at np
+
+  same-layout : (p : ℕ → ℕ) → Numbering (t .count) p → laid p ≡ layout N (readBack N l) p
+  same-layout p np = table-layout N t (readBack N l) held is p (numbers np)
+
+  pub not-laid : (l ≡ laid (at (plain N)) → ⊥) → Readable N l → ⊥
+  not-laid ne r =
+      let plainly = layout-local N (readBack N l) (at (plain N)) (λ i. i) (λ i h. at-plain N i (omega (arith, is .few))) in
+      ne (sym (same-layout (at (plain N)) plain-numbers ∙ plainly ∙ readable-laid N l r))
+
+  module _ (p : List ℕ) (found : Smallest N t p) where
+    least : (q : ℕ → ℕ) → Numbering (readBack N l .size) q → layout N (readBack N l) (at p) ≼ layout N (readBack N l) q
+    least q nq =
+        let mq : Numbering (t .count) q = subst (λ n. Numbering n q) (sym (held .count)) nq in
+        subst₂ _≼_ (same-layout (at p) (found .numbering)) (same-layout q mq) (found .least q mq)
+
+    pub not-smallest : (l ≡ laid (at p) → ⊥) → Readable N l → ⊥
+    not-smallest ne r = ne (sym (same-layout (at p) (found .numbering) ∙ readable-smallest N l r (at p) (numbers (found .numbering)) least))
+
+    pub read-smallest : l ≡ laid (at p) → ReadBack N l (Accepted (nodesIn l) (edgesIn N l))
+    read-smallest e = smallest-read N l (at p) (numbers (found .numbering)) least (e ∙ same-layout (at p) (found .numbering)) w

@@ -1,0 +1,126 @@
+-- `readback::read` meets its contract: a test that fails refutes what every record has, and what passes both is the record of the diagram that is answered
+-- (proofs/Tested.antt). Assumes nothing.
+use mathlib.Core.List.{List}
+use mathlib.Core.Path.{_≡_, sym, subst}
+use lib.ListN.{length}
+use borrow.Author.Needs.{needs}
+use borrow.Author.Tests.{not-true, not-false}
+use Rattle.cd.specs.Diagrams.{Stored, limit, cdOf}
+use Rattle.cd.specs.declared.Cd.{Cd}
+use Rattle.cd.specs.declared.Node.{Node}
+use Rattle.filing.specs.Diagrams.{IsDiagram}
+use Rattle.filing.specs.Numberings.{Numbering, at}
+use Rattle.filing.specs.Readable.{spelled}
+use Rattle.filing.specs.Records.{recordLength}
+use Rattle.parse.specs.Reading.{Accepted, answer}
+use Rattle.parse.specs.declared.Answer.the-variants as said
+use Rattle.tables.specs.Tables.{Holds}
+use Rattle.tables.proofs.TableLayouts.{numbers-held}
+use Rattle.readback.specs.ReadBack.{wrong-length, no-diagram}
+use Rattle.readback.proofs.Decided.{refutes}
+use Rattle.readback.proofs.ReadBackLaws.{readable-spelled}
+use Rattle.readback.proofs.SpelledLaws.{readBack, spelled-is-diagram, spelled-numbers}
+use Rattle.readback.proofs.Tested.{tables-few, plain-numbers, not-laid, not-smallest, read-smallest}
+use Rattle.readback.proofs.read.Statement.{statement}
+use Rattle.readback.proofs.read.Tie as tie
+
+answered : (cd : Cd) (ns : List Node) (es : List Stored) → cd ≡ cdOf ns es → record { answer = said.Accepted; cd = cd } ≡ answer (Accepted ns es)
+unfolding answer
+answered cd ns es e = rw e
+
+refused-requires : tie.Need-refused-requires
+refused-requires c κs = search needs
+
+returns : tie.Need-returns
+returns c = (_, wrong-length (c .before .if1 .taken), c .refused .ensures)
+
+is-spelled-requires : tie.Need-is-spelled-requires
+is-spelled-requires c κs = search needs
+
+refused-requires-2 : tie.Need-refused-requires-2
+refused-requires-2 c κs = search needs
+
+returns-2 : tie.Need-returns-2
+returns-2 c =
+    let s = c .before .before in
+    (_, no-diagram (s .before .if1 .left) (λ r. refutes (s .is-spelled .ensures) (not-true _ (c .before .if2 .taken)) (readable-spelled limit _ r)), c .refused2 .ensures)
+
+spelled-requires : tie.Need-spelled-requires
+spelled-requires c κs = (c .before .before .if1 .left, c .before .is-spelled .ensures .only-when (not-false _ (c .if2 .left)))
+
+of-requires : tie.Need-of-requires
+of-requires c κs =
+    let w = c .before .before .is-spelled .ensures .only-when (not-false _ (c .before .if2 .left)) in
+    numbers-held (c .spelled .result) _ _ (c .spelled .ensures) (spelled-numbers limit _ w)
+
+-- the bytes are as many as a record's; what they spell is a diagram, and the tables hold it
+long : (o : tie.After-of) → length (o .before .before .before .before .before .before .args .s .now) ≡ recordLength limit
+long o = o .before .before .before .before .if1 .left
+
+spells : (o : tie.After-of) → IsDiagram limit (spelled limit (o .before .before .before .before .before .before .args .s .now))
+spells o = o .before .before .before .is-spelled .ensures .only-when (not-false _ (o .before .before .if2 .left))
+
+holds : (o : tie.After-of) → Holds limit (o .of .result) (readBack limit (o .before .before .before .before .before .before .args .s .now))
+holds o = o .of .ensures .1 _ _ (o .before .spelled .ensures) (spelled-is-diagram limit _ (spells o))
+
+plain-requires : tie.Need-plain-requires
+plain-requires c κs = search needs
+
+is-layout-requires : tie.Need-is-layout-requires
+is-layout-requires c κs =
+    let o = c .before in
+    (tables-few limit _ (spells o) _ (holds o), subst (λ p. Numbering (o .of .result .count) (at p)) (sym (c .plain .ensures)) (plain-numbers limit _ (spells o) _ (holds o)))
+
+refused-requires-3 : tie.Need-refused-requires-3
+refused-requires-3 c κs = search needs
+
+returns-3 : tie.Need-returns-3
+returns-3 c =
+    let y = c .before .before in
+    let o = y .before .before in
+    let ne = refutes (y .is-layout .ensures) (not-true _ (c .before .if3 .taken)) in
+    (_, no-diagram (long o) (not-laid limit _ (spells o) _ (holds o) (λ e. ne (rw (y .before .plain .ensures) e))), c .refused3 .ensures)
+
+smallest-requires : tie.Need-smallest-requires
+smallest-requires c κs = let o = c .before .before .before in tables-few limit _ (spells o) _ (holds o)
+
+is-layout-requires-2 : tie.Need-is-layout-requires-2
+is-layout-requires-2 c κs = let o = c .before .before .before .before in (tables-few limit _ (spells o) _ (holds o), c .smallest .ensures .numbering)
+
+refused-requires-4 : tie.Need-refused-requires-4
+refused-requires-4 c κs = search needs
+
+returns-4 : tie.Need-returns-4
+returns-4 c =
+    let y = c .before .before in
+    let o = y .before .before .before .before .before in
+    let ne = refutes (y .is-layout2 .ensures) (not-true _ (c .before .if4 .taken)) in
+    (_, no-diagram (long o) (not-smallest limit _ (spells o) _ (holds o) _ (y .before .smallest .ensures) ne), c .refused4 .ensures)
+
+returns-5 : tie.Need-returns-5
+returns-5 c =
+    let y = c .before in
+    let o = y .before .before .before .before .before in
+    let e = y .is-layout2 .ensures .only-when (not-false _ (c .if4 .left)) in
+    (_, read-smallest limit _ (spells o) _ (holds o) _ (y .before .smallest .ensures) e, answered _ _ _ (o .before .spelled .ensures))
+
+pub read-spec : {M : Type 1} → statement M
+read-spec =
+    tie.close
+    (tie.spec
+    refused-requires
+    returns
+    is-spelled-requires
+    refused-requires-2
+    returns-2
+    spelled-requires
+    of-requires
+    plain-requires
+    is-layout-requires
+    refused-requires-3
+    returns-3
+    smallest-requires
+    is-layout-requires-2
+    refused-requires-4
+    returns-4
+    returns-5)

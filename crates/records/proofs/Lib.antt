@@ -1,0 +1,4 @@
+-- The laws of what is written into a buffer, and of a layout's parts.
+pub mod Parts
+pub mod Layouts
+mod Recorded

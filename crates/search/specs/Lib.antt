@@ -1,0 +1,3 @@
+-- What the search for the smallest layout promises, step by step.
+pub mod Sides
+pub mod Search

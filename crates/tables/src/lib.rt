@@ -1,0 +1,157 @@
+// The tables of a diagram: what its filing record is made of, for the search to look up.
+use cd::Cd;
+use cd::Edge;
+use cd::LIMIT;
+use cd::Node;
+use cd::Pair;
+ghost use mathlib.Core.List.{List, map};
+ghost use mathlib.Core.Path.{_≡_};
+ghost use Prim.Native.Nat.{_+_, _*_, _<_};
+ghost use Rattle.cd.specs.Diagrams.{Stored, limit, cdOf};
+ghost use Rattle.cd.specs.declared.Node.{Node as ANode};
+ghost use Rattle.filing.specs.Diagrams.{IsDiagram};
+ghost use Rattle.filing.specs.Fractions.{gcd as the-gcd};
+ghost use Rattle.filing.specs.Numberings.{at};
+ghost use Rattle.tables.specs.Diagrams.{filed, fraction, diagram};
+ghost use Rattle.tables.specs.Tables.{IsNumber, Numbers, number, pairNumber, PairTable, Holds};
+
+// A place for any two nodes, in either order.
+pub const SQUARE: usize = 81;
+
+pub struct Tables {
+    pub count: usize,
+    pub kinds: [u8; LIMIT],
+    pub bits: [u64; LIMIT],
+    pub pairs: [u64; SQUARE],
+}
+
+// The greatest common divisor, by Euclid's algorithm.
+pub fn gcd(a: u32, b: u32) -> u32
+    ensures { λ r. ⌜ r ≡ the-gcd a b ⌝ }
+{
+    let mut x = a;
+    let mut y = b;
+    while y != 0 {
+        let rest = x % y;
+        x = y;
+        y = rest;
+    }
+    x
+}
+
+// The number that the eight bytes of a pair spell, whose order is the byte order: num and den in lowest terms.
+fn lowest(e: Edge) -> u64
+    requires { ⌜ 0 < e .den ⌝ }
+    ensures { λ r. ⌜ r ≡ number (fraction e) ⌝ }
+{
+    let g = gcd(e.num, e.den);
+    (e.num / g) as u64 * 0x1_0000_0000 + (e.den / g) as u64
+}
+
+// The same of a pair's place: 2 and 1 if nothing joins the two.
+fn pair_number(p: Pair) -> u64
+    ensures { λ r. ⌜ r ≡ pairNumber p ⌝ }
+{
+    let e = p.edge;
+    if e.den == 0 {
+        return 0x2_0000_0001;
+    }
+    lowest(e)
+}
+
+fn kind(n: Node) -> u8
+    ensures { λ r. ⌜ r ≡ filed n .kind ⌝ }
+{
+    match n {
+        Node::Unringed => 1,
+        Node::Ringed(_) => 2,
+        Node::Snub(_) => 3,
+    }
+}
+
+// The 64 bits of a node's value.
+fn bits(n: Node) -> u64
+    requires { ⌜ IsNumber n ⌝ }
+    ensures { λ r. ⌜ r ≡ filed n .bits ⌝ }
+{
+    match n {
+        Node::Unringed => 0,
+        Node::Ringed(v) => f64::to_bits(v),
+        Node::Snub(v) => f64::to_bits(v),
+    }
+}
+
+fn kinds_of(cd: Cd) -> [u8; LIMIT]
+    ensures { λ r. ⌜ r ≡ map (λ p. filed (p .node) .kind) (cd .nodes) ⌝ }
+{
+    let mut out = [0; LIMIT];
+    for i in 0..LIMIT {
+        let place = cd.nodes[i];
+        let node = place.node;
+        out[i] = kind(node);
+    }
+    out
+}
+
+fn bits_of(cd: Cd) -> [u64; LIMIT]
+    requires { ⌜ Numbers (cd .nodes) ⌝ }
+    ensures { λ r. ⌜ r ≡ map (λ p. filed (p .node) .bits) (cd .nodes) ⌝ }
+{
+    let mut out = [0; LIMIT];
+    for i in 0..LIMIT {
+        let place = cd.nodes[i];
+        let node = place.node;
+        out[i] = bits(node);
+    }
+    out
+}
+
+fn blank() -> [u64; SQUARE] {
+    [0; SQUARE]
+}
+
+// For the nodes u and v, at LIMIT × u + v, the number of their pair.
+fn pairs_of(cd: Cd) -> [u64; SQUARE]
+    ensures { λ r. ⌜ PairTable limit (cd .pairs) r ⌝ }
+{
+    let mut out = blank();
+    for k in 0..SQUARE {
+        let p = cd.pairs[cd::pair_place(k / LIMIT, k % LIMIT)];
+        out[k] = pair_number(p);
+    }
+    out
+}
+
+pub fn of(cd: Cd) -> Tables
+    requires { ⌜ Numbers (cd .nodes) ⌝ }
+    ensures { λ t. ⌜ (t .count ≡ cd .count) × ((ns : List ANode) (es : List Stored) → cd ≡ cdOf ns es → IsDiagram limit (diagram ns es) → Holds limit t (diagram ns es)) ⌝ }
+{
+    Tables {
+        count: cd.count,
+        kinds: kinds_of(cd),
+        bits: bits_of(cd),
+        pairs: pairs_of(cd),
+    }
+}
+
+// The entries of tables behind references. (A result is known to fit its type, an element behind a reference is not.)
+pub fn kind_at(kinds: &[u8; LIMIT], v: usize) -> u8
+    requires { ⌜ v < limit ⌝ }
+    ensures { λ r. ⌜ r ≡ at (now (kinds .entry)) v ⌝ }
+{
+    kinds[v]
+}
+
+pub fn bits_at(bits: &[u64; LIMIT], v: usize) -> u64
+    requires { ⌜ v < limit ⌝ }
+    ensures { λ r. ⌜ r ≡ at (now (bits .entry)) v ⌝ }
+{
+    bits[v]
+}
+
+pub fn pair_at(pairs: &[u64; SQUARE], u: usize, v: usize) -> u64
+    requires { ⌜ (u < limit) × (v < limit) ⌝ }
+    ensures { λ r. ⌜ r ≡ at (now (pairs .entry)) (limit * u + v) ⌝ }
+{
+    pairs[LIMIT * u + v]
+}
