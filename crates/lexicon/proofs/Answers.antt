@@ -37,3 +37,24 @@ pub mark-refused : (x : Reading) (r : Read) (e : CdError) → r ≡ answer x →
 unfolding answer
 mark-refused (Accepted ns es) r e h a = absurd (apart e (sym (ap (λ (y : Read). y .answer) h) ∙ a))
 mark-refused (Refused f) r e h a = refl
+
+-- ---- which reading an answer shows
+
+pub record Accepts (x : Reading) (r : Read) : Type 0 where
+  pub ns : List Node
+  pub es : List Stored
+  pub is : x ≡ Accepted ns es
+  pub held : r .cd ≡ cdOf ns es
+
+pub accepts : (x : Reading) (r : Read) → r ≡ answer x → r .answer ≡ said.Accepted → Accepts x r
+unfolding answer
+accepts (Accepted ns es) r h a = record { ns = ns; es = es; is = refl; held = ap (λ (y : Read). y .cd) h }
+accepts (Refused e) r h a = absurd (apart e (sym a ∙ ap (λ (y : Read). y .answer) h))
+
+alike : (d e : CdError) → said.Refused d ≡ said.Refused e → d ≡ e
+alike d e h = cc
+
+pub refuses : (x : Reading) (r : Read) (e : CdError) → r ≡ answer x → r .answer ≡ said.Refused e → x ≡ Refused e
+unfolding answer
+refuses (Accepted ns es) r e h a = absurd (apart e (sym (ap (λ (y : Read). y .answer) h) ∙ a))
+refuses (Refused d) r e h a = ap Refused (alike d e (sym (ap (λ (y : Read). y .answer) h) ∙ a))

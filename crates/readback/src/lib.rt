@@ -225,10 +225,12 @@ pub fn read(s: &[u8]) -> Read
     }
     let cd = spelled(s);
     let t = tables::of(cd);
-    if !records::is_layout(s, t, search::plain()) {
+    let laid = records::is_layout(s, t, search::plain());
+    if !laid {
         return parse::refused(CdError::NoDiagram);
     }
-    if !records::is_layout(s, t, search::smallest(t)) {
+    let smallest = records::is_layout(s, t, search::smallest(t));
+    if !smallest {
         return parse::refused(CdError::NoDiagram);
     }
     Read {
