@@ -3,13 +3,13 @@
 use mathlib.Core.List.{List, [], _∷_, _++_, append-assoc, append-nil, head-eq-of-cons-eq, tail-eq-of-cons-eq}
 use mathlib.Core.Logic.{_⊎_, inl, inr}
 use mathlib.Core.Path.{_≡_, refl, sym, ap, ap₂, _∙_}
-use Prim.Native.Nat.{ℕ, zero, suc, _+_, _*_, _%_, _^_, _≤_, _<_, suc-le-suc}
+use Prim.Native.Nat.{ℕ, zero, suc, _+_, _*_, _%_, _^_, _≤_, _<_}
 use native.Mathlib.Nat.{mod-one, mod-eq-of-lt, pow-succ', one-le-pow, zero-lt-suc, suc-inj, suc-ne-zero, not-suc-le-zero, le-of-suc-le-suc, eq-or-lt-of-le, le-refl}
 use native.Mathlib.Nat.{zero-add, add-zero, suc-add, add-assoc, add-comm, mul-assoc, mul-add-div-right, mul-add-mod-self-right, div-div-eq-div-mul}
 use native.Mathlib.Numerals.{add-one}
 use native.Mathlib.Omega.{arith}
-use lib.Arith.{mod-mul, digits-lt, digits-div}
-use lib.ListN.{length, getD, take, drop, set, length-append, length-replicate, length-drop, take-append-drop}
+use lib.Arith.{mod-mul, digits-div}
+use lib.ListN.{length, take, drop, set, length-append, length-replicate, length-drop, take-append-drop}
 use lib.Pow.{pow-add}
 use lib.Seq.{length-take-le, take-at, drop-at, drop-drop, set-split}
 use Rattle.filing.specs.Bytes.{bytes, value, blocks, filled, written}
@@ -46,20 +46,6 @@ unfolding bytes
 bytes-split zero v x y h = rw (zero-add v) (bytes-low v x y)
 bytes-split (suc w) v x y h =
     rw (suc-add w v, add-comm w v, pow-add 256 v w, ← div-div-eq-div-mul, digits-div x h, add-comm v w, bytes-split w v x y h)
-
--- bytes below 256 are told by their number
-value-less : (l : List ℕ) → ((i : ℕ) → i < length l → getD l i 0 < 256) → value l < 256 ^ length l
-unfolding value
-value-less [] h = power-pos zero
-value-less (b ∷ bs) h = rw (pow-succ' 256 (length bs)) (digits-lt (h zero (zero-lt-suc _)) (value-less bs (λ i k. h (suc i) (suc-le-suc k))))
-
-pub bytes-value : (l : List ℕ) → ((i : ℕ) → i < length l → getD l i 0 < 256) → bytes (length l) (value l) ≡ l
-unfolding bytes value
-bytes-value [] h = refl
-bytes-value (b ∷ bs) h =
-    let low : (i : ℕ) → i < length bs → getD bs i 0 < 256 = λ i k. h (suc i) (suc-le-suc k) in
-    ap₂ _∷_ (ap (λ z. z % 256) (digits-div b (value-less bs low)) ∙ mod-eq-of-lt (h zero (zero-lt-suc _)))
-    (bytes-low (length bs) b (value bs) ∙ bytes-value bs low)
 
 -- ---- the seam of two parts of known length
 

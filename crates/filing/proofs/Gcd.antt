@@ -137,6 +137,3 @@ lowest-same x y hx hy = (to, from)
 
     from : lowest x ≡ lowest y → SameFraction x y
     from e = cross-back (divisor x) (divisor y) (lowest x .num) (lowest x .den) (lowest-num x) (lowest-den x) (rw e (lowest-num y)) (rw e (lowest-den y))
-
-pub lowest-twice : (x : Fraction) → zero < x .den → lowest (lowest x) ≡ lowest x
-lowest-twice x h = lowest-same (lowest x) x (lowest-positive x h) h .0 (lowest-is-same x)

@@ -1,19 +1,17 @@
--- A layout's parts have lengths that the number of nodes tells, so that a layout is cut at any node and any pair. Two layouts whose parts before such a cut
--- are equal are in the order of what stands there. Assumes nothing.
+-- A layout's parts have lengths that the number of nodes tells, so that a layout is cut at any node and any pair. Assumes nothing.
 use mathlib.Core.List.{List, _∷_, _++_, append-assoc}
 use mathlib.Core.Path.{_≡_, refl, ap, ap₂, _∙_}
 use Prim.Native.Nat.{ℕ, zero, suc, _+_, _-_, _*_, _≤_, _<_}
 use native.Mathlib.Nat.{mul-le-mul, mul-le-mul-left}
-use native.Mathlib.Numerals.{add-one, sub-one}
+use native.Mathlib.Numerals.{sub-one}
 use native.Mathlib.Omega.{arith}
 use lib.ListN.{length, replicate, length-append}
-use Rattle.filing.specs.Bytes.{blocks, filled, _≼_}
+use Rattle.filing.specs.Bytes.{blocks, filled}
 use Rattle.filing.specs.Diagrams.{Node, Diagram, IsEdge}
 use Rattle.filing.specs.Fractions.{Fraction, lowest}
 use Rattle.filing.specs.Records.{nodesLength, pairsLength, recordLength, nodeLength, nodeBytes, pairBytes, nodesOf, rowOf, pairsOf, layout}
 use Rattle.filing.proofs.Bytes.{length-blocks, blocks-same, blocks-split, length-filled}
 use Rattle.filing.proofs.Gcd.{lowest-num-le, lowest-positive, lowest-less}
-use Rattle.filing.proofs.Order.{≼-after}
 
 pub lowest-edge : {x : Fraction} → IsEdge x → IsEdge (lowest x)
 lowest-edge {x} h = record {
@@ -49,15 +47,8 @@ unfolding pairsOf
 length-pairsOf d p zero = refl
 length-pairsOf d p (suc n) = length-append (blocks (rowOf d p) n) (rowOf d p n) ∙ ap₂ _+_ (length-pairsOf d p n) (length-rowOf d p n) ∙ one-row-more n
 
-pub pairs-more : (d : Diagram) (p : ℕ → ℕ) (j : ℕ) → length (pairsOf d p (j + 1)) ≡ length (pairsOf d p j) + 8 * j
-pairs-more d p j = rw (add-one j, length-pairsOf d p (suc j), length-pairsOf d p j, one-row-more j)
-
 pub pairsLength-mono : {m n : ℕ} → m ≤ n → pairsLength m ≤ pairsLength n
 pairsLength-mono h = mul-le-mul (mul-le-mul-left 4 h) (omega arith)
-
--- row j fits behind those before it
-pub row-fits : (N : ℕ) (d : Diagram) (p : ℕ → ℕ) (j : ℕ) → j < N → length (pairsOf d p j) + 8 * j ≤ pairsLength N
-row-fits N d p j h = rw (length-pairsOf d p j, one-row-more j) (pairsLength-mono h)
 
 module _ (N : ℕ) (d : Diagram) (few : d .size ≤ N) (p : ℕ → ℕ) where
   pub nodes-fit : length (nodesOf d p (d .size)) ≤ nodesLength N
@@ -134,24 +125,3 @@ module _ (N : ℕ) (d : Diagram) (p : ℕ → ℕ) where
       let nodes : List ℕ = filled (nodesLength N) (nodesOf d p (d .size)) in
       let zeros : List ℕ = replicate (pairsLength N - length (pairsOf d p (d .size))) 0 in
       record { rest = rest ++ (rows ++ zeros); whole = ap (λ z. d .size ∷ (nodes ++ (z ++ zeros))) g ∙ simp append-assoc }
-
--- ---- the first different node or pair decides
-
--- x is the lesser, whatever follows
-abbrev pub Decides : List ℕ → List ℕ → Type 0
-Decides x y = (l m : List ℕ) → (x ++ l) ≼ (y ++ m)
-
-cut-decides : {l m a b x y : List ℕ} → a ≡ b → Cut l a x → Cut m b y → Decides x y → l ≼ m
-cut-decides {b = b} e c f h = rw (c .whole, f .whole, e) (≼-after b (h (c .rest) (f .rest)))
-
-module _ (N : ℕ) (d : Diagram) (p q : ℕ → ℕ) where
-  pub nodes-decide : (i : ℕ) → i < d .size → SameNodes d d p q i → Decides (nodeBytes (d .node (p i))) (nodeBytes (d .node (q i))) → layout N d p ≼ layout N d q
-  nodes-decide i h e = cut-decides (ap (λ z. d .size ∷ z) (nodes-same d d p q i e)) (node-cut N d p i h) (node-cut N d q i h)
-
-  pub pairs-decide : (i j : ℕ) → i < j → j < d .size → SameNodes d d p q (d .size) → SamePairs d d p q j
-      → ((k : ℕ) → k < i → pairBytes (d .edge (p k) (p j)) ≡ pairBytes (d .edge (q k) (q j)))
-      → Decides (pairBytes (d .edge (p i) (p j))) (pairBytes (d .edge (q i) (q j))) → layout N d p ≼ layout N d q
-  pairs-decide i j h k e f g = cut-decides before (pair-cut N d p i j h k) (pair-cut N d q i j h k)
-    where
-      before : beforePair N d p i j ≡ beforePair N d q i j
-      before = rw (nodes-same d d p q (d .size) e, pairs-same d d p q j f, blocks-same _ _ i g)

@@ -112,9 +112,6 @@ module _ {n : ℕ} {f : ℕ → ℕ} (a : Numbering n f) where
   pub inverse-right : (v : ℕ) → v < n → f (inverse n f v) ≡ v
   inverse-right v h = inverse-found v h .1
 
-  pub inverse-left : (i : ℕ) → i < n → inverse n f (f i) ≡ i
-  inverse-left i h = let r = inverse-found (f i) (a .within i h) in a .apart (inverse n f (f i)) i (r .0) h (r .1)
-
   pub inverse-numbering : Numbering n (inverse n f)
   inverse-numbering = record {
     within = λ v h. inverse-found v h .0;

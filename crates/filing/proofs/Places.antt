@@ -1,17 +1,17 @@
--- Where the parts of a layout stand: the lengths of what comes before them. A layout written part by part into zeros is the layout. Assumes nothing.
-use mathlib.Core.List.{List, [], _∷_, _++_, append-assoc, append-nil}
+-- Where the parts of a layout stand: the lengths of what comes before them. Assumes nothing.
+use mathlib.Core.List.{List, [], _++_, append-assoc, append-nil}
 use mathlib.Core.Path.{_≡_, refl, sym, ap, ap₂, _∙_}
-use Prim.Native.Nat.{ℕ, zero, suc, _+_, _-_, _*_, _/_, _≤_, _<_}
-use native.Mathlib.Nat.{add-zero, mul-assoc}
+use Prim.Native.Nat.{ℕ, zero, suc, _+_, _-_, _*_, _/_, _<_}
+use native.Mathlib.Nat.{mul-assoc}
 use native.Mathlib.Numerals.{sub-one}
 use native.Mathlib.Omega.{arith}
-use lib.ListN.{length, take, drop, replicate, length-append, length-replicate, replicate-append-replicate}
-use lib.Seq.{take-at, drop-at, take-append-seam, drop-append-add}
-use Rattle.filing.specs.Bytes.{blocks, filled, written}
+use lib.ListN.{length, take, drop, length-append}
+use lib.Seq.{take-at, drop-at}
+use Rattle.filing.specs.Bytes.{blocks}
 use Rattle.filing.specs.Diagrams.{Diagram, IsDiagram}
-use Rattle.filing.specs.Records.{nodeLength, nodesLength, pairsLength, recordLength, nodeBytes, pairBytes, nodesOf, pairsOf, layout}
-use Rattle.filing.proofs.Bytes.{length-blocks, written-front}
-use Rattle.filing.proofs.Layouts.{Cut, node-cut, pair-cut, length-nodesOf, length-pairsOf, length-pairBytes, nodes-fit, pairs-fit, length-nodes-part}
+use Rattle.filing.specs.Records.{nodeLength, nodesLength, pairsLength, nodeBytes, pairBytes, layout}
+use Rattle.filing.proofs.Bytes.{length-blocks}
+use Rattle.filing.proofs.Layouts.{Cut, node-cut, pair-cut, length-nodesOf, length-pairsOf, length-pairBytes, length-nodes-part}
 
 -- x stands in l from place k on
 pub record Placed (l : List ℕ) (k : ℕ) (x : List ℕ) : Type 0 where
@@ -71,54 +71,3 @@ module _ (N : ℕ) {d : Diagram} (w : IsDiagram N d) (p : ℕ → ℕ) where
     where
       row : length (blocks (λ t. pairBytes (d .edge (p t) (p j))) i) ≡ 8 * i
       row = length-blocks _ 8 i (λ t l. length-pairBytes (d .edge (p t) (p j)))
-
--- ---- a layout written part by part into zeros: the size, the nodes, the pairs
-
-abbrev zeros : ℕ → List ℕ
-zeros n = replicate n 0
-
--- x written over the first of w + m zeros
-written-zeros : (a x r : List ℕ) (w m : ℕ) → length x ≤ w → written (length a) x (a ++ (zeros (w + m) ++ r)) ≡ a ++ (filled w x ++ (zeros m ++ r))
-unfolding written filled
-written-zeros a x r w m h =
-    let e : length x + (w - length x + m) ≡ w + m = omega arith in
-    let tail : List ℕ = zeros (w - length x) ++ zeros m in
-    let cut : zeros (w + m) ≡ zeros (length x) ++ tail = simp (replicate-append-replicate, e) in
-    let behind : drop (length x) (zeros (length x) ++ (tail ++ r)) ≡ tail ++ r = drop-at (zeros (length x)) _ (length x) (length-replicate (length x) _) in
-    rw (take-append-seam, drop-append-add, cut, append-assoc (zeros (length x)) tail r, behind) (simp append-assoc)
-
-pub laid : (N : ℕ) (d : Diagram) → d .size ≤ N → (p : ℕ → ℕ) (out : List ℕ) → recordLength N ≤ length out
-    → written (1 + nodesLength N) (pairsOf d p (d .size)) (written 1 (nodesOf d p (d .size)) (written zero (d .size ∷ replicate (recordLength N - 1) 0) out))
-    ≡ layout N d p ++ drop (recordLength N) out
-unfolding layout
-laid N d h p out fits =
-    ap (λ z. written (1 + a) ps (written 1 ns z)) cleared
-    ∙ ap (written (1 + a) ps) (written-zeros (d .size ∷ []) ns rest a b (nodes-fit N d h p))
-    ∙ pairs-written
-    ∙ ap (λ z. d .size ∷ z) (sym (append-assoc (filled a ns) (filled b ps) rest))
-  where
-    a : ℕ
-    a = nodesLength N
-
-    b : ℕ
-    b = pairsLength N
-
-    ns : List ℕ
-    ns = nodesOf d p (d .size)
-
-    ps : List ℕ
-    ps = pairsOf d p (d .size)
-
-    rest : List ℕ
-    rest = drop (recordLength N) out
-
-    cleared : written zero (d .size ∷ zeros (recordLength N - 1)) out ≡ d .size ∷ (zeros (a + b) ++ rest)
-    cleared =
-        let e : recordLength N - 1 ≡ a + b = omega arith in
-        let f : length (d .size ∷ zeros (a + b)) ≡ recordLength N = omega (arith, length-replicate {A = ℕ} (a + b) 0) in
-        rw (e, written-front, f)
-
-    pairs-written : written (1 + a) ps (d .size ∷ (filled a ns ++ (zeros b ++ rest))) ≡ d .size ∷ (filled a ns ++ (filled b ps ++ rest))
-    pairs-written =
-        let len : length (d .size ∷ filled a ns) ≡ 1 + a = omega (arith, length-nodes-part N d h p) in
-        rw (len, add-zero b) at (written-zeros (d .size ∷ filled a ns) ps rest b zero (pairs-fit N d h p))

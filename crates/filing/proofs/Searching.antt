@@ -8,7 +8,7 @@ use native.Mathlib.Nat.{not-suc-le-zero, le-refl, le-trans, one-mul, add-zero}
 use native.Mathlib.Omega.{arith}
 use lib.ListN.{length, set, length-set, List·getD-append}
 use lib.Seq.{getD-at, getD-set-same, getD-set-other}
-use Rattle.filing.specs.Bytes.{blocks, _≼_}
+use Rattle.filing.specs.Bytes.{_≼_}
 use Rattle.filing.specs.Diagrams.{Diagram}
 use Rattle.filing.specs.Numberings.{Injects, at, plain}
 use Rattle.filing.specs.Records.{layout, IsRecord}

@@ -1,5 +1,5 @@
 -- Document 01, "Filing record": the layout of a diagram under a numbering, and the record.
-use mathlib.Core.List.{List, [], _∷_, _++_}
+use mathlib.Core.List.{List, _∷_, _++_}
 use mathlib.Core.Path.{_≡_}
 use Prim.Native.Nat.{ℕ, _+_, _-_, _*_}
 use Rattle.filing.specs.Bytes.{bytes, blocks, filled, _≼_}

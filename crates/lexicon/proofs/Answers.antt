@@ -6,7 +6,6 @@ use mathlib.Core.Path.{_≡_, refl, sym, ap, _∙_}
 use native.Mathlib.Omega.{arith}
 use Rattle.cd.specs.Diagrams.{Stored, limit, cdOf}
 use Rattle.cd.specs.Minimal.{Minimal, Decides}
-use Rattle.cd.specs.declared.Cd.{Cd}
 use Rattle.cd.specs.declared.CdError.{CdError}
 use Rattle.cd.specs.declared.Node.{Node}
 use Rattle.parse.specs.Reading.{Reading, Accepted, Refused, read, answer}

@@ -1,24 +1,22 @@
 -- The diagram of every accepted text can be filed: its values are doubles and no nan, so their patterns are those of numbers, and what joins two nodes is
 -- a valid edge, or 2/1. Assumes nothing.
 use Prim.Native.Nat.{ℕ, zero, suc, _^_, _<_}
-use mathlib.Core.Bool.{Bool, true, false, not, and-eq-true-iff, true≢false}
+use mathlib.Core.Bool.{true, false, not, and-eq-true-iff, true≢false}
 use mathlib.Core.List.{List, [], _∷_}
 use mathlib.Core.Path.{_≡_, refl, sym, ap, _∙_}
 use native.Mathlib.Nat.{not-suc-le-zero, le-of-suc-le-suc}
 use native.Mathlib.Omega.{arith}
 use borrow.Author.Tests.{ltb-true}
 use lib.Dec.{T, ltb, eqb}
-use lib.Ieee.{Float, binary64, fits, isNan, ofBits, toBits, nanBits}
+use lib.Ieee.{Float, binary64, fits, isNan, toBits, nanBits}
 use lib.Ieee.Bits.{ofBits-toBits, toBits-lt, nanBits-is}
 use lib.ListN.{length, getD}
-use Rattle.float.specs.Pick.{pick}
 use Rattle.cd.specs.Diagrams.{Stored, joins, limit}
 use Rattle.cd.specs.Edges.{isEdge}
 use Rattle.cd.specs.declared.Edge.{Edge}
 use Rattle.cd.specs.declared.Node.{Node}
-use Rattle.cd.specs.declared.Node.the-variants.{Unringed, Ringed, Snub}
+use Rattle.cd.specs.declared.Node.the-variants.{Unringed}
 use Rattle.filing.specs.Diagrams.{IsNode, IsEdge, IsDiagram}
-use Rattle.filing.specs.Fractions.{Fraction}
 use Rattle.parse.specs.Reading.{Accepted, read}
 use Rattle.parse.proofs.Outcomes.{accepted-few}
 use Rattle.tables.specs.Diagrams.{filed, fraction, joint, diagram}

@@ -2,7 +2,7 @@
 -- exist. By induction on the turns of reading, then on the queue: a run refuses a part of 2 ^ 32 or more as it closes, so no edge that waits has one, and
 -- joining stores only edges that waited, at indices below the number of nodes. Assumes nothing.
 use Prim.Native.Nat.{ℕ, zero, suc, _+_, _-_, _^_, _<_}
-use mathlib.Core.Bool.{Bool, true, false, and-eq-true-iff}
+use mathlib.Core.Bool.{true, and-eq-true-iff}
 use mathlib.Core.List.{List, [], _∷_, _++_}
 use mathlib.Core.Path.{_≡_, refl}
 use native.Mathlib.Omega.{arith}

@@ -16,9 +16,9 @@ ghost use mathlib.Core.List.{map};
 ghost use mathlib.Core.Path.{_≡_};
 ghost use Prim.Native.Nat.{_+_, _*_, _<_, _≤_};
 ghost use lib.Ieee.{binary64, nanBits};
-ghost use lib.ListN.{length, getD};
+ghost use lib.ListN.{length};
 ghost use Rattle.cd.specs.Arrays.{padded};
-ghost use Rattle.cd.specs.Diagrams.{limit, between, place, cdOf};
+ghost use Rattle.cd.specs.Diagrams.{limit, place, cdOf};
 ghost use Rattle.cd.specs.Minimal.{Decides};
 ghost use Rattle.cd.specs.declared.Node.the-variants.{Unringed};
 ghost use Rattle.filing.specs.Diagrams.{IsNode, IsEdge, IsDiagram};
@@ -26,7 +26,7 @@ ghost use Rattle.filing.specs.Readable.{numberAt, spelled as the-spelled};
 ghost use Rattle.filing.specs.Records.{recordLength};
 ghost use Rattle.parse.specs.Reading.{Reading, answer};
 ghost use Rattle.readback.specs.ReadBack.{ReadBack};
-ghost use Rattle.readback.specs.Spelled.{node, nodesTo, nodesIn, rowTo, edgesTo, edgesIn};
+ghost use Rattle.readback.specs.Spelled.{node, nodesTo, nodesIn, edgesTo, edgesIn};
 ghost use Rattle.readback.specs.Steps.{NodesTo, PairsTo, halves, Shows};
 
 // The number in eight bytes at k, the highest first.

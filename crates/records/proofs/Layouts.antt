@@ -2,7 +2,6 @@
 use mathlib.Core.List.{List, _∷_, _++_}
 use mathlib.Core.Path.{_≡_, refl, ap₂, _∙_}
 use Prim.Native.Nat.{ℕ, zero, suc, _+_, _-_, _*_, _≤_, _<_}
-use native.Mathlib.Nat.{mul-le-mul, mul-le-mul-left}
 use native.Mathlib.Numerals.{add-one}
 use native.Mathlib.Omega.{arith}
 use lib.ListN.{length, drop, set, replicate, length-append}
@@ -10,7 +9,7 @@ use Rattle.filing.specs.Bytes.{bytes, blocks, filled, written}
 use Rattle.filing.specs.Numberings.{at}
 use Rattle.filing.specs.Records.{nodeLength, nodesLength, pairsLength, recordLength}
 use Rattle.filing.proofs.Bytes.{length-bytes, length-blocks, length-filled, length-written, written-block}
-use Rattle.filing.proofs.Layouts.{one-row-more}
+use Rattle.filing.proofs.Layouts.{one-row-more, pairsLength-mono}
 use Rattle.tables.specs.Tables.{tableNode, tableNodes, tableRow, tablePairs, tableLayout}
 use Rattle.records.proofs.Parts.{byte-then, block-then, parts-written}
 
@@ -59,7 +58,7 @@ module _ (N : ℕ) (pairs : List ℕ) (p : ℕ → ℕ) where
       length-append (blocks (tableRow N pairs p) n) (tableRow N pairs p n) ∙ ap₂ _+_ (length-tablePairs n) (length-tableRow n) ∙ one-row-more n
 
   pub pairs-fit : (n : ℕ) → n ≤ N → length (tablePairs N pairs p n) ≤ pairsLength N
-  pairs-fit n h = rw (length-tablePairs n) (mul-le-mul (mul-le-mul-left 4 h) (omega arith))
+  pairs-fit n h = rw (length-tablePairs n) (pairsLength-mono h)
 
   pub pairs-more : (j : ℕ) → length (tablePairs N pairs p (j + 1)) ≡ length (tablePairs N pairs p j) + 8 * j
   pairs-more j = rw (add-one j, length-tablePairs (suc j), length-tablePairs j, one-row-more j)

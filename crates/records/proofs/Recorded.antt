@@ -7,7 +7,7 @@ use lib.Seq.{take-at, drop-at}
 use Rattle.filing.specs.Bytes.{_≼_}
 use Rattle.filing.specs.Diagrams.{Diagram, IsDiagram}
 use Rattle.filing.specs.Numberings.{Numbering, at, plain}
-use Rattle.filing.specs.Records.{recordLength, layout, IsRecord}
+use Rattle.filing.specs.Records.{recordLength, layout}
 use Rattle.filing.proofs.Layouts.{length-layout}
 use Rattle.search.specs.Search.{Smallest}
 use Rattle.tables.specs.Tables.{Holds, tableLayout}

@@ -8,12 +8,12 @@ use native.Mathlib.Decide.{decLt}
 use native.Mathlib.Numerals.{add-one}
 use native.Mathlib.Omega.{arith}
 use borrow.Author.Tests.{lt-ltb, le-ltb}
-use Rattle.filing.proofs.Bytes.{blocks-same, blocks-split}
+use Rattle.filing.proofs.Bytes.{blocks-split}
 use Rattle.filing.proofs.Order.{≼-refl, ≼-after, bytes-less}
 use Rattle.filing.specs.Bytes.{bytes, blocks, filled, _≼_, less}
 use Rattle.filing.specs.Numberings.{at}
 use Rattle.filing.specs.Records.{nodesLength, pairsLength}
-use Rattle.tables.specs.Tables.{tableNode, tableNodes, tableRow, tablePairs, tableLayout}
+use Rattle.tables.specs.Tables.{tableNode, tableNodes, tablePairs, tableLayout}
 use Rattle.search.specs.Sides.{sideOf, Side}
 
 -- ---- how numbers stand

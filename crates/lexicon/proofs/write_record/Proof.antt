@@ -1,9 +1,8 @@
 -- `lexicon::write_record` meets its contract: the diagram of an accepted text can be filed (proofs/Fileable.antt). Assumes nothing.
-use mathlib.Core.Path.{_≡_, refl, _∙_}
+use mathlib.Core.Path.{refl}
 use borrow.Author.Needs.{needs}
 use Rattle.cd.proofs.Stored.{count-held}
 use Rattle.parse.specs.Reading.{read}
-use Rattle.parse.specs.declared.Read.{Read}
 use Rattle.tables.proofs.TableLayouts.{numbers-held}
 use Rattle.lexicon.specs.Files.{refused, short, filed}
 use Rattle.lexicon.proofs.Answers.{read-few, Accepts, accepts, refuses}

@@ -1,6 +1,6 @@
 -- `records::write` meets its contract: the smallest layout is the record, by `proofs/Recorded.antt`. Assumes nothing.
 use Prim.Native.Nat.{_≤_}
-use mathlib.Core.Path.{_≡_, sym, subst}
+use mathlib.Core.Path.{sym, subst}
 use borrow.Author.Needs.{needs}
 use Rattle.cd.specs.Diagrams.{limit}
 use Rattle.tables.specs.Diagrams.{diagram}
