@@ -3,3 +3,4 @@ mod SoundNodes
 mod Sound
 mod Fileable
 pub mod Demand3
+mod FilingsRight

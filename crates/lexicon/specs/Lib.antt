@@ -1,4 +1,5 @@
--- What the public calls promise.
+-- What the public calls promise, and the records that document 01 tells.
 pub mod Reads
 pub mod Files
 pub mod ReadsRecord
+pub mod Filings

@@ -9,6 +9,7 @@ use cd::Pair;
 use cd::Place;
 use parse::Answer;
 use parse::Read;
+use records::NODE;
 use records::PAIRS_AT;
 use records::RECORD;
 ghost use mathlib.Core.Bool.{not};
@@ -79,7 +80,7 @@ fn are_nodes(s: &[u8], n: usize) -> bool
 {
     let mut i = 0;
     while i < n {
-        if !is_node(s[1 + 9 * i], number_at(s, 2 + 9 * i)) {
+        if !is_node(s[1 + NODE * i], number_at(s, 2 + NODE * i)) {
             return false;
         }
         i += 1;
@@ -137,7 +138,7 @@ fn read_nodes(s: &[u8], n: usize) -> [Place; LIMIT]
     let mut out = [blank; LIMIT];
     let mut i = 0;
     while i < n {
-        let node = node_of(s[1 + 9 * i], number_at(s, 2 + 9 * i));
+        let node = node_of(s[1 + NODE * i], number_at(s, 2 + NODE * i));
         out[i] = Place { node: node };
         i += 1;
     }

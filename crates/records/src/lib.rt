@@ -21,7 +21,7 @@ ghost use Rattle.records.specs.Written.{Written};
 // A record's length; its node's; where its pairs begin.
 pub const RECORD: usize = 370;
 
-const NODE: usize = 9;
+pub const NODE: usize = 9;
 
 pub const PAIRS_AT: usize = 82;
 

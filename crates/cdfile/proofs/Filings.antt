@@ -1,0 +1,64 @@
+-- What is written of an answer, added part by part; and every answer of `write_record` numbers at most `limit` places, each with one digit: an accepted
+-- text has at most `limit` nodes, and a refusal numbers none. Assumes nothing.
+use Prim.Native.Nat.{ℕ, _≤_, _<_}
+use Prim.Native.Char.{code}
+use mathlib.Core.List.{List, [], _∷_, map}
+use mathlib.Core.Path.{_≡_, ap}
+use native.Mathlib.Omega.{arith}
+use lib.ListN.{length, getD, take}
+use lib.Seq.{take-all}
+use Rattle.cd.specs.Diagrams.{limit}
+use Rattle.cd.specs.Refusals.{numberOf}
+use Rattle.cd.specs.declared.CdError.{CdError}
+use Rattle.filing.specs.Records.{recordLength}
+use Rattle.lexicon.specs.Files.{Files, refused, short, filed}
+use Rattle.lexicon.specs.declared.Filed.{Filed}
+use Rattle.lines.specs.Answers.{glyph, spaced}
+use Rattle.lines.specs.Written.{Adds}
+use Rattle.lines.proofs.Writing.{adds-then}
+use Rattle.parse.specs.declared.Answer.{Answer}
+use Rattle.parse.specs.declared.Answer.the-variants as said
+use Rattle.parse.proofs.Outcomes.{accepted-few}
+use Rattle.scan.specs.Ascii.{ascii}
+use Rattle.tables.specs.Diagrams.{diagram}
+use Rattle.cdfile.specs.Shown.{hexes, shown, Shows}
+
+-- ---- what is written of an answer
+
+module _ {a b c : List ℕ} {i j k : ℕ} (x : Answer) (bytes p : List ℕ) where
+  pub adds-ok : {d e : List ℕ} {l m : ℕ} → x ≡ said.Accepted → Adds a i b j (ascii "ok ") → Adds b j c k (hexes bytes) → Adds c k d l (code " " ∷ [])
+      → Adds d l e m (map glyph p) → Adds a i e m (shown x bytes p)
+  unfolding shown
+  adds-ok h w s t n = rw h (adds-then _ _ w (adds-then _ _ s (adds-then _ _ t n)))
+
+  pub adds-no : (e : CdError) (xs : List ℕ) → x ≡ said.Refused e → xs ≡ numberOf e → Adds a i b j (ascii "no") → Adds b j c k (spaced xs)
+      → Adds a i c k (shown x bytes p)
+  unfolding shown
+  adds-no e xs h n w s = rw (h, ← n) (adds-then _ _ w s)
+
+-- ---- an answer of `write_record`
+
+module _ {text out out′ : List ℕ} {r : Filed} where
+  pub few-places : Files text out out′ r → r .count ≤ limit
+  few-places (refused h e k) = rw e (omega arith)
+  few-places (short h s e k) = rw e (omega arith)
+  few-places (filed {ns} {es} h l a n w) = rw n (accepted-few text ns es h)
+
+  pub one-digit : Files text out out′ r → (i : ℕ) → i < r .count → getD (r .numbering) i 0 < 10
+  unfolding diagram
+  one-digit (refused h e k) i l = let z : ⊥ = omega (arith, ap (λ (y : Filed). y .count) e) in absurd z
+  one-digit (short h s e k) i l = let z : ⊥ = omega (arith, ap (λ (y : Filed). y .count) e) in absurd z
+  one-digit (filed {ns} {es} h s a n w) i l =
+      let b = w .numbering .within i (rw n at l) in
+      omega (arith, accepted-few text ns es h)
+
+  pub shows-line : {a b c : List ℕ} {i j k : ℕ} → Files text out out′ r → recordLength limit ≤ length out → length out′ ≤ recordLength limit
+      → Adds a i b j (shown (r .answer) out′ (take (r .count) (r .numbering))) → Adds b j c k (ascii "\n") → Shows text a i c k
+  shows-line f l m p q = record {
+    out = out;
+    out′ = out′;
+    filed = r;
+    files = f;
+    long = l;
+    line = rw (take-all (recordLength limit) out′ m) (adds-then _ _ p q);
+  }
