@@ -1,0 +1,284 @@
+// Reads as `cdlist` does, and answers each line with a text's record: its digest, its equality with another's, what it is read back to once
+// bytes are changed or cut off, or what a part of a buffer holds after the call. oracle/filing.py has the kinds of lines.
+use cd::Cd;
+use parse::Answer;
+use parse::Read;
+use records::RECORD;
+ghost use Prim.Native.Nat.{_+_, _≤_, _<_};
+ghost use mathlib.Core.Path.{_≡_};
+ghost use lib.ListN.{length};
+
+// Records are written to more bytes than they take. (Parts are taken by both ends, `[0..n]`: then their length needs no proof.)
+const ROOM: usize = 400;
+
+// What a buffer holds before. No record holds it throughout, so a text that is refused shows.
+const UNWRITTEN: u8 = 0xa5;
+
+fn filled(b: u8) -> [u8; ROOM]
+    ensures { λ r. ⌜ 400 ≡ length r ⌝ }
+{
+    [b; ROOM]
+}
+
+// A text's record at the start of a filled buffer.
+fn record_bytes(text: &[u8], rest: u8) -> [u8; ROOM]
+    ensures { λ r. ⌜ 400 ≡ length r ⌝ }
+{
+    let mut bytes = filled(rest);
+    lexicon::write_record(text, &mut bytes);
+    bytes
+}
+
+// A hexadecimal digit's value, 0 for another byte.
+fn digit(b: u8) -> usize
+    ensures { λ r. ⌜ r < 16 ⌝ }
+{
+    match b {
+        b'0'..=b'9' => (b - b'0') as usize,
+        b'a'..=b'f' => (b - b'a') as usize + 10,
+        _ => 0,
+    }
+}
+
+fn two_digits(s: &[u8], at: usize) -> usize
+    requires { ⌜ at + 2 ≤ length (now s) ⌝ }
+    ensures { λ r. ⌜ r < 256 ⌝ }
+{
+    digit(s[at]) * 16 + digit(s[at + 1])
+}
+
+fn three_digits(s: &[u8], at: usize) -> usize
+    requires { ⌜ at + 3 ≤ length (now s) ⌝ }
+    ensures { λ r. ⌜ r < 4096 ⌝ }
+{
+    digit(s[at]) * 256 + two_digits(s, at + 1)
+}
+
+// How many bytes of a buffer three digits mean.
+fn part(digits: &[u8]) -> usize
+    ensures { λ r. ⌜ r ≤ 400 ⌝ }
+{
+    if digits.len() < 3 {
+        return 0;
+    }
+    let n = three_digits(digits, 0);
+    if ROOM < n {
+        return ROOM;
+    }
+    n
+}
+
+// Each five digits are an offset and the byte to put there.
+fn change(bytes: &mut [u8], digits: &[u8]) {
+    let mut i = 0;
+    while i + 5 <= digits.len() {
+        let offset = three_digits(digits, i);
+        if bytes.len() <= offset {
+            return;
+        }
+        bytes[offset] = two_digits(digits, i + 3) as u8;
+        i += 5;
+    }
+}
+
+fn equal(a: &[u8], b: &[u8]) -> bool {
+    if a.len() != b.len() {
+        return false;
+    }
+    let mut i = 0;
+    while i < a.len() {
+        if a[i] != b[i] {
+            return false;
+        }
+        i += 1;
+    }
+    true
+}
+
+fn digest(bytes: &[u8]) -> u64
+    ensures { λ r. ⌜ r < 4294967296 ⌝ }
+{
+    let mut h: u64 = 0;
+    let mut i = 0;
+    while i < bytes.len() {
+        h = (h * 65599 + bytes[i] as u64) % 4294967291;
+        i += 1;
+    }
+    h
+}
+
+// A space and the digest.
+fn put_digest(out: &mut [u8], at: usize, bytes: &[u8]) -> usize
+    requires { ⌜ at + 9 ≤ length (now out) ⌝ }
+    ensures { λ r. ⌜ r ≤ at + 9 ⌝ }
+{
+    let mut digits = [0u8; 16];
+    let k = io::hex(digest(bytes), 8, &mut digits);
+    let to = lines::put(out, at, b' ');
+    lines::put_all(out, to, &digits[..k])
+}
+
+// `ok`, or `no` and the figures.
+fn put_answer(out: &mut [u8], at: usize, a: Answer) -> usize
+    requires { ⌜ at + 86 ≤ length (now out) ⌝ }
+    ensures { λ r. ⌜ r ≤ at + 86 ⌝ }
+{
+    match a {
+        Answer::Accepted => lines::put_all(out, at, b"ok"),
+        Answer::Refused(e) => {
+            let to = lines::put_all(out, at, b"no");
+            lines::put_numbers(out, to, cd::figures(e))
+        }
+    }
+}
+
+// How many nodes and stored edges there are.
+fn put_counts(out: &mut [u8], at: usize, cd: Cd) -> usize
+    requires { ⌜ at + 42 ≤ length (now out) ⌝ }
+    ensures { λ r. ⌜ r ≤ at + 42 ⌝ }
+{
+    let to = lines::put_number(out, at, b' ', cd.count as u64);
+    lines::put_number(out, to, b' ', cd.edges as u64)
+}
+
+// What bytes were read back to.
+fn put_read(out: &mut [u8], at: usize, r: Read) -> usize
+    requires { ⌜ at + 128 ≤ length (now out) ⌝ }
+    ensures { λ to. ⌜ to ≤ at + 128 ⌝ }
+{
+    let a = r.answer;
+    let to = put_answer(out, at, a);
+    match a {
+        Answer::Accepted => {
+            let cd = r.cd;
+            put_counts(out, to, cd)
+        }
+        Answer::Refused(_) => to,
+    }
+}
+
+// TEXT
+fn filed(text: &[u8], out: &mut [u8], at: usize) -> usize
+    requires { ⌜ at + 137 ≤ length (now out) ⌝ }
+    ensures { λ r. ⌜ r ≤ at + 137 ⌝ }
+{
+    let mut bytes = filled(UNWRITTEN);
+    let f = lexicon::write_record(text, &mut bytes);
+    let a = f.answer;
+    match a {
+        Answer::Refused(_) => put_answer(out, at, a),
+        Answer::Accepted => {
+            let file = &bytes[0..RECORD];
+            let r = lexicon::read_record(file);
+            let cd = r.cd;
+            let back = r.answer;
+            let mut to = put_answer(out, at, back);
+            to = put_digest(out, to, file);
+            put_counts(out, to, cd)
+        }
+    }
+}
+
+// TEXT|TEXT
+fn compared(one: &[u8], other: &[u8], out: &mut [u8], at: usize) -> usize
+    requires { ⌜ at + 23 ≤ length (now out) ⌝ }
+    ensures { λ r. ⌜ r ≤ at + 23 ⌝ }
+{
+    let left = record_bytes(one, UNWRITTEN);
+    let right = record_bytes(other, UNWRITTEN);
+    let a = &left[0..RECORD];
+    let b = &right[0..RECORD];
+    if equal(a, b) {
+        let to = lines::put_all(out, at, b"same");
+        return put_digest(out, to, a);
+    }
+    let mut to = lines::put_all(out, at, b"apart");
+    to = put_digest(out, to, a);
+    put_digest(out, to, b)
+}
+
+// TEXT|!OOOVV..
+fn changed(text: &[u8], digits: &[u8], out: &mut [u8], at: usize) -> usize
+    requires { ⌜ at + 128 ≤ length (now out) ⌝ }
+    ensures { λ r. ⌜ r ≤ at + 128 ⌝ }
+{
+    let mut bytes = record_bytes(text, UNWRITTEN);
+    change(&mut bytes, digits);
+    put_read(out, at, lexicon::read_record(&bytes[0..RECORD]))
+}
+
+// TEXT|~LLL
+fn cut(text: &[u8], digits: &[u8], out: &mut [u8], at: usize) -> usize
+    requires { ⌜ at + 128 ≤ length (now out) ⌝ }
+    ensures { λ r. ⌜ r ≤ at + 128 ⌝ }
+{
+    let bytes = record_bytes(text, 0);
+    let n = part(digits);
+    put_read(out, at, lexicon::read_record(&bytes[0..n]))
+}
+
+// TEXT|^LLL: the digest is of the whole buffer, of which the call is lent a part.
+fn written(text: &[u8], digits: &[u8], out: &mut [u8], at: usize) -> usize
+    requires { ⌜ at + 95 ≤ length (now out) ⌝ }
+    ensures { λ r. ⌜ r ≤ at + 95 ⌝ }
+{
+    let mut bytes = filled(UNWRITTEN);
+    let n = part(digits);
+    let f = lexicon::write_record(text, &mut bytes[0..n]);
+    let a = f.answer;
+    let to = put_answer(out, at, a);
+    put_digest(out, to, &bytes)
+}
+
+// The place of the first `|`, which no text holds, or the length.
+fn text_end(s: &[u8]) -> usize
+    ensures { λ r. ⌜ r ≤ length (now (s .entry)) ⌝ }
+{
+    let mut i = 0;
+    while i < s.len() {
+        if s[i] == b'|' {
+            return i;
+        }
+        i += 1;
+    }
+    i
+}
+
+fn answer(s: &[u8], out: &mut [u8], at: usize) -> usize
+    requires { ⌜ at + 137 ≤ length (now out) ⌝ }
+    ensures { λ r. ⌜ r ≤ at + 137 ⌝ }
+{
+    let end = text_end(s);
+    if s.len() - end < 2 {
+        return filed(&s[0..end], out, at);
+    }
+    match s[end + 1] {
+        b'!' => changed(&s[0..end], &s[end + 2..], out, at),
+        b'~' => cut(&s[0..end], &s[end + 2..], out, at),
+        b'^' => written(&s[0..end], &s[end + 2..], out, at),
+        _ => compared(&s[0..end], &s[end + 1..], out, at),
+    }
+}
+
+fn line(s: &[u8], out: &mut [u8], at: usize) -> usize
+    requires { ⌜ at + 138 ≤ length (now out) ⌝ }
+    ensures { λ r. ⌜ r ≤ at + 138 ⌝ }
+{
+    let to = answer(s, out, at);
+    lines::put(out, to, b'\n')
+}
+
+fn main() {
+    let mut text = io::large_buffer();
+    let n = io::read_full(0, &mut text);
+    let mut out = lines::buffer();
+    let mut at = 0;
+    let mut from = 0;
+    while from < n {
+        let end = lines::line_end(&text[..n], from);
+        at = line(&text[from..end], &mut out, at);
+        at = lines::flushed(&out, at);
+        from = end + 1;
+    }
+    io::write_all(1, &out[..at]);
+}
