@@ -2,7 +2,7 @@
 use Prim.Native.Nat.{ℕ}
 use mathlib.Core.List.{List, [], _∷_}
 use Rattle.cd.specs.declared.CdError.{CdError}
-use Rattle.cd.specs.declared.CdError.the-variants.{TooLong, NotAscii, MismatchedParenthesis, UnexpectedEnding, ParseError, InvalidSymbol, InvalidEdge, RepeatEdge, OutOfRange, TooManyNodes, MissingNode, ShortBuffer, RecordLength, NoDiagram}
+use Rattle.cd.specs.declared.CdError.the-variants.{TooLong, NotAscii, MismatchedParenthesis, UnexpectedEnding, ParseError, InvalidSymbol, InvalidEdge, RepeatEdge, OutOfRange, TooManyNodes, MissingNode, ShortBuffer, RecordLength, NoDiagram, Crowded, Infinite, NoFamily}
 
 unfoldable pub numberOf : CdError → List ℕ
 numberOf (TooLong pos) = 1 ∷ pos ∷ []
@@ -19,3 +19,6 @@ numberOf (MissingNode edge) = 11 ∷ edge ∷ []
 numberOf ShortBuffer = 12 ∷ []
 numberOf RecordLength = 13 ∷ []
 numberOf NoDiagram = 14 ∷ []
+numberOf (Crowded column) = 15 ∷ column ∷ []
+numberOf (Infinite node) = 16 ∷ node ∷ []
+numberOf NoFamily = 17 ∷ []

@@ -11,10 +11,12 @@ ghost use Rattle.cd.specs.Diagrams.{limit, pairLimit, placeOf};
 
 pub mod minimal; // minimal.rt: components, and whether a diagram is minimal
 
-// How many nodes a diagram has at most, and how many pairs, loops included.
+// How many nodes a diagram has at most, and how many pairs, loops included; how many if each two nodes count in both orders.
 pub const LIMIT: usize = 9;
 
 pub const PAIRS: usize = 45;
+
+pub const SQUARE: usize = 81;
 
 // Compared by match and by bits.
 pub enum Node {
@@ -40,7 +42,7 @@ pub struct EdgeRef {
     pub edge: Edge,
 }
 
-// What a text, a buffer or a record is refused with; document 01's numbers are `numberOf` in specs/Refusals.antt.
+// What a text, a buffer, a record, mirrors, a generator or a family is refused with; document 01's numbers are `numberOf` in specs/Refusals.antt.
 pub enum CdError {
     TooLong { pos: usize },
     NotAscii { pos: usize },
@@ -56,6 +58,9 @@ pub enum CdError {
     ShortBuffer,
     RecordLength,
     NoDiagram,
+    Crowded { column: usize },
+    Infinite { node: usize },
+    NoFamily,
 }
 
 // A few numbers: the first `count` of `at`.
@@ -89,6 +94,9 @@ pub fn figures(e: CdError) -> Numbers
         CdError::ShortBuffer => no_field(12),
         CdError::RecordLength => no_field(13),
         CdError::NoDiagram => no_field(14),
+        CdError::Crowded { column } => one_field(15, column),
+        CdError::Infinite { node } => one_field(16, node),
+        CdError::NoFamily => no_field(17),
     }
 }
 

@@ -3,6 +3,7 @@ mod Table
 mod Powers
 pub mod RoundedOnce
 mod Steps
+mod Halves
 mod Nearest
 mod Ties
 mod Values

@@ -1,5 +1,6 @@
 // The square root of a double, rounded once. Rattle has neither a square root nor a u128, so the root's
-// 54 leading binary digits are found one by one, in u64.
+// 54 leading binary digits are found in u64, in two halves: the high one by an estimate in doubles that
+// whole numbers test, the low one by a division. Where the test fails they are found one by one.
 ghost use mathlib.Core.Path.{_≡_};
 ghost use Prim.Native.Nat.{_+_, _*_, _^_, _≤_, _<_};
 ghost use Rattle.float.specs.Root.{units, rootBits, rootOf};
@@ -29,9 +30,9 @@ fn step(s: Digits, d: u64) -> Digits
     }
 }
 
-// The whole part of the square root of m * 2 ^ 54: the radicand stands at the top of a word, and two
-// digits leave it each turn.
-fn whole_root(m: u64) -> u64
+// The whole part of the square root of m * 2 ^ 54, digit by digit: the radicand stands at the top of a
+// word, and two digits leave it each turn.
+fn root_by_digits(m: u64) -> u64
     requires { ⌜ m < 2 ^ 54 ⌝ }
     ensures { λ r. ⌜ WholeRoot (m * 2 ^ 54) r ⌝ }
 {
@@ -44,6 +45,82 @@ fn whole_root(m: u64) -> u64
         i += 1;
     }
     s.root
+}
+
+// One of Newton's steps from y towards the square root of 2 * x.
+fn newton(y: f64, x: f64) -> f64 {
+    y * 0.5 + x / y
+}
+
+// The whole part of the square root of m, or a number near it, for an m from 2 ^ 52 up: a parabola
+// within 0.6 % of the root, then two steps. Only its size is promised. From 2 ^ 26 to 2 ^ 27 the field
+// of y's exponent ends in 01, and with 26 digits of the fraction that is y's whole part.
+fn estimate(m: u64) -> u64
+    requires { ⌜ m < 2 ^ 54 ⌝ }
+    ensures { λ r. ⌜ r < 2 ^ 28 ⌝ }
+{
+    let x = ((m + 1) / 2) as f64;
+    let parabola = 3.48e7 + (1.568e-8 - 5.24e-25 * x) * x;
+    let y = newton(newton(parabola, x), x);
+    if y > 0.0 {
+        return f64::to_bits(y) / 0x400_0000 % 0x1000_0000;
+    }
+    0
+}
+
+// A root by the estimate, and what is left of m. Newton's steps come from above, so one less is tried
+// too; where both squares are above m the root is 0.
+fn high_half(m: u64) -> Digits
+    requires { ⌜ m < 2 ^ 54 ⌝ }
+    ensures { λ r. ⌜ (r .root < 2 ^ 28) × (r .root * r .root + r .rest ≡ m) ⌝ }
+{
+    let near = estimate(m);
+    let square = near * near;
+    if square <= m {
+        return Digits {
+            root: near,
+            rest: m - square,
+        };
+    }
+    let less = near - 1;
+    let smaller = less * less;
+    if smaller <= m {
+        return Digits {
+            root: less,
+            rest: m - smaller,
+        };
+    }
+    Digits { root: 0, rest: m }
+}
+
+// The root with 27 digits more than its first 27: the rest by twice the root, or one less (Zimmermann,
+// "Karatsuba Square Root", 1999).
+fn low_half(s: Digits) -> u64
+    requires { ⌜ (2 ^ 26 ≤ s .root) × (s .root < 2 ^ 28) × (s .rest ≤ 2 * s .root) ⌝ }
+    ensures { λ r. ⌜ WholeRoot ((s .root * s .root + s .rest) * 2 ^ 54) r ⌝ }
+{
+    let twice = s.root * 2;
+    let rest = s.rest * 0x800_0000;
+    let low = rest / twice;
+    let r = s.root * 0x800_0000 + low;
+    if low * low <= rest % twice * 0x800_0000 {
+        return r;
+    }
+    r - 1
+}
+
+// The whole part of the square root of m * 2 ^ 54, in halves where the high one has all its digits.
+fn whole_root(m: u64) -> u64
+    requires { ⌜ m < 2 ^ 54 ⌝ }
+    ensures { λ r. ⌜ WholeRoot (m * 2 ^ 54) r ⌝ }
+{
+    let s = high_half(m);
+    if 0x400_0000 <= s.root {
+        if s.rest <= s.root * 2 {
+            return low_half(s);
+        }
+    }
+    root_by_digits(m)
 }
 
 // m * 2 ^ a.

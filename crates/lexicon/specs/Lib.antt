@@ -3,3 +3,5 @@ pub mod Reads
 pub mod Files
 pub mod ReadsRecord
 pub mod Filings
+pub mod Squares
+pub mod Points

@@ -9,6 +9,8 @@ ghost use Rattle.lexicon.specs.Files.{refusal as the-refusal, Files};
 ghost use Rattle.lexicon.specs.Reads.{Reads};
 ghost use Rattle.lexicon.specs.ReadsRecord.{ReadsRecord};
 
+pub mod geometry; // geometry.rt: matrices, mirrors, the generator, the reflections
+
 // A text's diagram, or what refuses it, and whether the diagram is minimal.
 pub struct Reading {
     pub read: Read,

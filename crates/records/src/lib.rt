@@ -1,7 +1,7 @@
 // The filing record: the layout of a diagram under the numbering that makes it smallest, written into a lent buffer.
 use cd::Cd;
 use cd::LIMIT;
-use tables::SQUARE;
+use cd::SQUARE;
 use tables::Tables;
 ghost use mathlib.Core.List.{List, _∷_, _++_};
 ghost use mathlib.Core.Path.{_≡_};

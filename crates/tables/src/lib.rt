@@ -4,6 +4,7 @@ use cd::Edge;
 use cd::LIMIT;
 use cd::Node;
 use cd::Pair;
+use cd::SQUARE;
 ghost use mathlib.Core.List.{List, map};
 ghost use mathlib.Core.Path.{_≡_};
 ghost use Prim.Native.Nat.{_+_, _*_, _<_};
@@ -14,9 +15,6 @@ ghost use Rattle.filing.specs.Fractions.{gcd as the-gcd};
 ghost use Rattle.filing.specs.Numberings.{at};
 ghost use Rattle.tables.specs.Diagrams.{filed, fraction, diagram};
 ghost use Rattle.tables.specs.Tables.{IsNumber, Numbers, number, pairNumber, PairTable, Holds};
-
-// A place for any two nodes, in either order.
-pub const SQUARE: usize = 81;
 
 pub struct Tables {
     pub count: usize,

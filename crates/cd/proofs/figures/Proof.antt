@@ -43,11 +43,11 @@ one-field-requires-6 c κs = search needs
 enum-known-e-7 : tie.Need-enum-known-e-7
 enum-known-e-7 c = search needs
 
-cast-t17 : tie.Need-cast-t17
-cast-t17 c = search needs
+cast-t19 : tie.Need-cast-t19
+cast-t19 c = search needs
 
-cast-t18 : tie.Need-cast-t18
-cast-t18 c = search needs
+cast-t20 : tie.Need-cast-t20
+cast-t20 c = search needs
 
 enum-known-e-8 : tie.Need-enum-known-e-8
 enum-known-e-8 c = search needs
@@ -87,6 +87,24 @@ enum-told-3 c = search needs
 
 no-field-requires-3 : tie.Need-no-field-requires-3
 no-field-requires-3 c κs = search needs
+
+enum-known-e-12 : tie.Need-enum-known-e-12
+enum-known-e-12 c = search needs
+
+one-field-requires-10 : tie.Need-one-field-requires-10
+one-field-requires-10 c κs = search needs
+
+enum-known-e-13 : tie.Need-enum-known-e-13
+enum-known-e-13 c = search needs
+
+one-field-requires-11 : tie.Need-one-field-requires-11
+one-field-requires-11 c κs = search needs
+
+enum-told-4 : tie.Need-enum-told-4
+enum-told-4 c = search needs
+
+no-field-requires-4 : tie.Need-no-field-requires-4
+no-field-requires-4 c κs = search needs
 
 returns : tie.Need-returns
 unfolding numberOf
@@ -144,6 +162,18 @@ returns-14 : tie.Need-returns-14
 unfolding numberOf
 returns-14 c = rw (c .before .enum-told3 .given .1) (c .no-field3 .ensures)
 
+returns-15 : tie.Need-returns-15
+unfolding numberOf
+returns-15 c = rw (c .before .before .e12 .given .1) (c .one-field10 .ensures)
+
+returns-16 : tie.Need-returns-16
+unfolding numberOf
+returns-16 c = rw (c .before .before .e13 .given .1) (c .one-field11 .ensures)
+
+returns-17 : tie.Need-returns-17
+unfolding numberOf
+returns-17 c = rw (c .before .enum-told4 .given .1) (c .no-field4 .ensures)
+
 pub figures-spec : {M : Type 1} → statement M
 figures-spec =
     tie.close
@@ -161,8 +191,8 @@ figures-spec =
     enum-known-e-6
     one-field-requires-6
     enum-known-e-7
-    cast-t17
-    cast-t18
+    cast-t19
+    cast-t20
     enum-known-e-8
     enum-known-e-9
     one-field-requires-7
@@ -176,6 +206,12 @@ figures-spec =
     no-field-requires-2
     enum-told-3
     no-field-requires-3
+    enum-known-e-12
+    one-field-requires-10
+    enum-known-e-13
+    one-field-requires-11
+    enum-told-4
+    no-field-requires-4
     returns
     returns-2
     returns-3
@@ -189,4 +225,7 @@ figures-spec =
     returns-11
     returns-12
     returns-13
-    returns-14)
+    returns-14
+    returns-15
+    returns-16
+    returns-17)

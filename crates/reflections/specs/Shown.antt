@@ -1,0 +1,24 @@
+-- How the code holds reflections: past the count there are zeros.
+use mathlib.Core.Bool.{_&&_}
+use Prim.Native.Nat.{ℕ}
+use lib.Dec.{ltb, eqb}
+use lib.Ieee.{Float}
+use Rattle.float.specs.Numbers.{_-ᶠ_, _*ᶠ_}
+use Rattle.float.specs.Pick.{pick}
+use Rattle.cd.specs.Diagrams.{limit}
+use Rattle.cox.specs.Squares.{Square, zeros, flat, flatSquare}
+use Rattle.reflections.specs.Reflections.{unit, reflection}
+use Rattle.reflections.specs.declared.Reflections as declared
+
+unfoldable pub reflectionsOf : ℕ → Square → declared.Reflections
+unfolding flat flatSquare reflection
+reflectionsOf n m = record { of = flat limit (λ i. record { at = flatSquare limit (pick (ltb i n) (reflection (m i) n) zeros) }); count = n }
+
+-- the square whose column c has f in its first k rows
+unfoldable pub putColumn : Square → ℕ → (ℕ → Float) → ℕ → Square
+putColumn m c f k i j = pick (eqb i c && ltb j k) (f j) (m i j)
+
+-- column c of the reflection in n, with q for 2×(e·n) ÷ (n·n)
+unfoldable pub column : (ℕ → Float) → ℕ → Float → ℕ → Float
+unfolding unit
+column n c q r = unit c r -ᶠ n r *ᶠ q
