@@ -3,6 +3,8 @@
 
 include!(concat!(env!("OUT_DIR"), "/miratope.rs"));
 
+pub mod lines;
+
 use cox::cd::{Cd, CdError};
 
 /// The type names of geometry.rs. The file itself leans on the rest of miratope-core.

@@ -1,36 +1,32 @@
+-- `lexicon::geometry::family_mirrors` meets its contract. Assumes nothing.
+use borrow.Author.Tests.{not-true, not-false}
+use mathlib.Core.Path.{sym, _∙_}
+use Rattle.cox.specs.Families.{familyMatrix}
+use Rattle.lexicon.proofs.Shapes.{family-few, family-at, family-mirrors-shown, family-mirrors-refused}
 use borrow.Author.Needs.{needs}
 use Rattle.lexicon.proofs.geometry.family_mirrors.Statement.{statement}
 use Rattle.lexicon.proofs.geometry.family_mirrors.Tie as tie
-use Rattle.lexicon.proofs.geometry.family_mirrors.Reads as reads
-use Rattle.lexicon.proofs.geometry.family_mirrors.Lts as lts
-use Rattle.cox.proofs.families.family_matrix.Reads as family-matrix-reads
-use Rattle.cox.proofs.families.is_family.Reads as is-family-reads
-use Rattle.lexicon.proofs.geometry.mirrored.Reads as mirrored-reads
-use Rattle.lexicon.proofs.geometry.refused_square.Reads as refused-square-reads
 
--- src/geometry.rt:122:9
 is-family-requires : tie.Need-is-family-requires
 is-family-requires c κs = search needs
 
--- src/geometry.rt:123:9
 refused-square-requires : tie.Need-refused-square-requires
 refused-square-requires c κs = search needs
 
--- src/geometry.rt:123:9
 returns : tie.Need-returns
-returns c = ?
+returns c = let f = c .before .before in family-mirrors-refused _ _ _ (sym (f .is-family .ensures) ∙ not-true _ (c .before .if1 .taken)) (c .refused-square .ensures)
 
--- src/geometry.rt:125:9
 family-matrix-requires : tie.Need-family-matrix-requires
 family-matrix-requires c κs = search needs
 
--- src/geometry.rt:127:5
 mirrored-requires : tie.Need-mirrored-requires
-mirrored-requires c κs = ?
+mirrored-requires c κs = let f = c .before .before in family-few _ _ (sym (f .before .is-family .ensures) ∙ not-false _ (f .if1 .left))
 
--- src/geometry.rt:119:1
 returns-2 : tie.Need-returns-2
-returns-2 c = ?
+returns-2 c =
+    let g = c .before .before in
+    let f = g .before in
+    family-mirrors-shown _ _ _ (sym (f .before .is-family .ensures) ∙ not-false _ (f .if1 .left)) (c .mirrored .ensures (familyMatrix _) (family-at _ _ _ (g .family-matrix .ensures)))
 
 pub family-mirrors-spec : {M : Type 1} → statement M
 family-mirrors-spec =

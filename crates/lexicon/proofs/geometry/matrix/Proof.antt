@@ -1,39 +1,44 @@
+-- `lexicon::geometry::matrix` meets its contract. Assumes nothing.
+use mathlib.Core.Path.{_≡_}
+use Rattle.parse.specs.Reading.{read}
+use Rattle.lexicon.proofs.Answers.{Accepts, accepts, refuses}
+use Rattle.cox.specs.Shown.{coxOf}
+use Rattle.lexicon.proofs.Shapes.{matrix-shown, square-refused}
 use borrow.Author.Needs.{needs}
 use Rattle.lexicon.proofs.geometry.matrix.Statement.{statement}
 use Rattle.lexicon.proofs.geometry.matrix.Tie as tie
-use Rattle.lexicon.proofs.geometry.matrix.Reads as reads
-use Rattle.lexicon.proofs.geometry.matrix.Lts as lts
-use Rattle.builder.proofs.parse.Reads as parse-reads
-use Rattle.cox.proofs.matrix.Reads as matrix-reads
-use Rattle.lexicon.proofs.geometry.refused_square.Reads as refused-square-reads
 
--- src/geometry.rt:71:9
+-- the text is accepted, and its matrix is held
+accepted : (c : tie.After-enum-told) → Accepts (read (c .before .before .before .before .args .text .now)) (c .before .before .parse .result)
+accepted c = accepts _ _ (c .before .before .parse .ensures) (c .enum-told .given .1)
+
+held : (c : tie.After-matrix) → let a = accepted (c .before .before) in c .matrix .result ≡ coxOf (a .ns) (a .es)
+held c = let a = accepted (c .before .before) in c .matrix .ensures (a .ns) (a .es) (a .held)
+
 parse-requires : tie.Need-parse-requires
 parse-requires c κs = search needs
 
--- src/geometry.rt:75:17
 enum-told : tie.Need-enum-told
 enum-told c = search needs
 
--- src/geometry.rt:76:17
 matrix-requires : tie.Need-matrix-requires
 matrix-requires c κs = search needs
 
--- src/geometry.rt:84:25
 enum-known-a : tie.Need-enum-known-a
 enum-known-a c = search needs
 
--- src/geometry.rt:84:31
 refused-square-requires : tie.Need-refused-square-requires
 refused-square-requires c κs = search needs
 
--- src/geometry.rt:68:1
 returns : tie.Need-returns
-returns c = ?
+returns c =
+    let m = c .before in
+    let t = m .before .before in
+    let a = accepted t in
+    matrix-shown _ (a .ns) (a .es) (a .is) _ (held m) _ (t .enum-told .given .1)
 
--- src/geometry.rt:68:1
 returns-2 : tie.Need-returns-2
-returns-2 c = ?
+returns-2 c = let k = c .before .before in square-refused _ _ _ (refuses _ _ _ (k .before .before .parse .ensures) (k .a .given .1)) (c .refused-square .ensures)
 
 pub matrix-spec : {M : Type 1} → statement M
 matrix-spec =

@@ -1,34 +1,31 @@
+-- `lexicon::geometry::mirrored` meets its contract: the columns, or the column that is refused. Assumes nothing.
+use Rattle.lexicon.proofs.Shapes.{fits, crowded, columns-shown, crowded-shown}
 use borrow.Author.Needs.{needs}
 use Rattle.lexicon.proofs.geometry.mirrored.Statement.{statement}
 use Rattle.lexicon.proofs.geometry.mirrored.Tie as tie
-use Rattle.lexicon.proofs.geometry.mirrored.Reads as reads
-use Rattle.lexicon.proofs.geometry.mirrored.Lts as lts
-use Rattle.lexicon.proofs.geometry.refused_square.Reads as refused-square-reads
-use Rattle.normals.proofs.normals.Reads as normals-reads
 
--- src/geometry.rt:53:9
 normals-requires : tie.Need-normals-requires
 normals-requires c κs = search needs
 
--- src/geometry.rt:57:17
 enum-told : tie.Need-enum-told
 enum-told c = search needs
 
--- src/geometry.rt:64:22
 enum-known-fit : tie.Need-enum-known-fit
 enum-known-fit c = search needs
 
--- src/geometry.rt:64:33
 refused-square-requires : tie.Need-refused-square-requires
 refused-square-requires c κs = search needs
 
--- src/geometry.rt:49:1
 returns : tie.Need-returns
-returns c = ?
+returns c e h =
+    let m = c .before .before .before in
+    let f = fits _ _ _ (m .normals .ensures e h) (c .before .enum-told .given .1) in
+    columns-shown _ _ (f .square) _ (f .is) (f .held)
 
--- src/geometry.rt:49:1
 returns-2 : tie.Need-returns-2
-returns-2 c = ?
+returns-2 c e h =
+    let k = c .before .before in
+    crowded-shown _ _ _ _ (crowded _ _ _ _ (k .before .before .normals .ensures e h) (k .fit .given .1)) (c .refused-square .ensures)
 
 pub mirrored-spec : {M : Type 1} → statement M
 mirrored-spec =

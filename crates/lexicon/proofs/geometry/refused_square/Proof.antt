@@ -1,17 +1,26 @@
+-- `lexicon::geometry::refused_square` meets its contract. Assumes nothing.
+use mathlib.Core.List.{List}
+use mathlib.Core.Path.{_≡_}
+use lib.Ieee.{Float}
+use Rattle.cd.specs.Diagrams.{limit}
+use Rattle.cd.specs.declared.CdError.{CdError}
+use Rattle.cox.specs.Squares.{zeros, flatSquare}
+use Rattle.parse.specs.declared.Answer.the-variants as said
+use Rattle.lexicon.specs.declared.geometry.Square.{Square}
+use Rattle.lexicon.specs.Squares.{refusedSquare}
 use borrow.Author.Needs.{needs}
 use Rattle.lexicon.proofs.geometry.refused_square.Statement.{statement}
 use Rattle.lexicon.proofs.geometry.refused_square.Tie as tie
-use Rattle.lexicon.proofs.geometry.refused_square.Reads as reads
-use Rattle.lexicon.proofs.geometry.refused_square.Lts as lts
-use Rattle.cox.proofs.zeros.Reads as zeros-reads
 
--- src/geometry.rt:40:9
+zeros-held : {e : CdError} {at : List Float} → at ≡ flatSquare limit zeros → _≡_ {A = Square} (record { answer = said.Refused e; at = at; count = 0 }) (refusedSquare e)
+unfolding refusedSquare
+zeros-held h = rw h
+
 zeros-requires : tie.Need-zeros-requires
 zeros-requires c κs = search needs
 
--- src/geometry.rt:37:1
 returns : tie.Need-returns
-returns c = ?
+returns c = zeros-held (c .zeros .ensures)
 
 pub refused-square-spec : {M : Type 1} → statement M
 refused-square-spec = tie.close (tie.spec zeros-requires returns)
