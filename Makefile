@@ -26,6 +26,7 @@ compare: float_c
 	@$(CC) $(CFLAGS) -O2 -o target/float oracle/float.c $(LIB)/libfloat_c.a -lm
 	@target/float $(SEED)
 	@if oracle/build; then python3 oracle/answers.py; fi
+	@python3 oracle/cox.py
 	@python3 oracle/filing.py
 
 # At -O3, as rt compiles. The plain C may call nothing: its root is the machine's instruction.

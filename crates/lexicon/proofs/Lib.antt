@@ -4,4 +4,4 @@ mod Sound
 mod Fileable
 pub mod Demand3
 mod FilingsRight
-mod Shapes
+pub mod Shapes

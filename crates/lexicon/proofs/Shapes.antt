@@ -1,13 +1,13 @@
 -- From what the code holds of a matrix and of mirrors to what the geometers' calls promise: case by case of the definitions. Assumes nothing.
-use Prim.Native.Nat.{ℕ, _≤_, _<_}
+use Prim.Native.Nat.{ℕ, _+_, _*_, _≤_, _<_}
 use mathlib.Core.Bool.{true, false, and-eq-true-iff}
 use mathlib.Core.List.{List}
 use mathlib.Core.Path.{_≡_, refl, sym, ap, _∙_}
 use native.Mathlib.Omega.{arith}
 use borrow.Author.Tests.{leb-true, lt-ltb, le-ltb}
 use lib.Dec.{leb}
-use lib.Ieee.{Float}
-use lib.ListN.{length}
+use lib.Ieee.{Float, nan}
+use lib.ListN.{length, getD}
 use Rattle.cd.specs.Diagrams.{Stored, limit}
 use Rattle.cd.specs.declared.CdError.{CdError}
 use Rattle.cd.specs.declared.CdError.the-variants.{Crowded, Infinite, NoFamily}
@@ -18,12 +18,14 @@ use Rattle.cox.specs.Shown.{coxOf, familyOf}
 use Rattle.cox.specs.Squares.{zeros, flatSquare}
 use Rattle.cox.specs.Squares as squares
 use Rattle.cox.specs.declared.Cox.{Cox}
+use Rattle.cox.proofs.Flats.{square-at}
 use Rattle.generator.specs.Generator.{values, solve, firstInfinite}
 use Rattle.generator.specs.Shown.{generatorOf}
 use Rattle.generator.specs.declared.Generator.{Generator}
 use Rattle.normals.specs.Mirrors.{Mirrors, Columns, mirrors}
 use Rattle.normals.specs.Mirrors as normals
 use Rattle.normals.specs.Shown.{mirrorsOf}
+use Rattle.normals.proofs.Triangle.{mirrors-local}
 use Rattle.normals.specs.declared.Fit.the-variants as fit
 use Rattle.normals.specs.declared.Mirrors as declared
 use Rattle.parse.specs.Reading.{Reading, Accepted, Refused}
@@ -119,6 +121,17 @@ module _ (c n : ℕ) where
   pub family-mirrors-shown : (r : Square) → isFamily limit c n ≡ true → r ≡ shown.shownMirrors n (mirrors (familyMatrix c) n) → r ≡ shown.familyMirrorsOf c n
   unfolding shown.familyMirrorsOf
   family-mirrors-shown r t h = rw t h
+
+  -- THE MIRRORS OF A FAMILY ARE THOSE OF THE MATRIX THAT `family_matrix` ANSWERS
+  pub family-mirrors-of-matrix : (m : squares.Square) → isFamily limit c n ≡ true → shown.familyMatrixOf c n ≡ shown.square n m
+      → shown.familyMirrorsOf c n ≡ shown.shownMirrors n (mirrors m n)
+  unfolding shown.familyMatrixOf shown.familyMirrorsOf
+  family-mirrors-of-matrix m t h =
+      let same : flatSquare limit (familyMatrix c) ≡ flatSquare limit m = ap (λ (y : Square). y .at) (rw t at h) in
+      let entry : (i j : ℕ) → j < i → i < n → familyMatrix c i j ≡ m i j = λ i j l k.
+          let inside : i < limit = omega (arith, family-few t) in
+          sym (square-at limit (familyMatrix c) nan i j inside (omega arith)) ∙ ap (λ z. getD z (limit * i + j) nan) same ∙ square-at limit m nan i j inside (omega arith) in
+      rw t (ap (shown.shownMirrors n) (mirrors-local (familyMatrix c) m n entry))
 
   pub family-mirrors-refused : (r : Square) → isFamily limit c n ≡ false → r ≡ shown.refusedSquare NoFamily → r ≡ shown.familyMirrorsOf c n
   unfolding shown.familyMirrorsOf
