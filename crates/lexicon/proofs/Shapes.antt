@@ -129,8 +129,8 @@ module _ (c n : ℕ) where
   family-mirrors-of-matrix m t h =
       let same : flatSquare limit (familyMatrix c) ≡ flatSquare limit m = ap (λ (y : Square). y .at) (rw t at h) in
       let entry : (i j : ℕ) → j < i → i < n → familyMatrix c i j ≡ m i j = λ i j l k.
-          let inside : i < limit = omega (arith, family-few t) in
-          sym (square-at limit (familyMatrix c) nan i j inside (omega arith)) ∙ ap (λ z. getD z (limit * i + j) nan) same ∙ square-at limit m nan i j inside (omega arith) in
+      let inside : i < limit = omega (arith, family-few t) in
+      sym (square-at limit (familyMatrix c) nan i j inside (omega arith)) ∙ ap (λ z. getD z (limit * i + j) nan) same ∙ square-at limit m nan i j inside (omega arith) in
       rw t (ap (shown.shownMirrors n) (mirrors-local (familyMatrix c) m n entry))
 
   pub family-mirrors-refused : (r : Square) → isFamily limit c n ≡ false → r ≡ shown.refusedSquare NoFamily → r ≡ shown.familyMirrorsOf c n
