@@ -40,6 +40,8 @@ bench: float_c parse_c lexicon_c
 	@target/reading_bench target/long.txt
 	@$(CC) $(CFLAGS) -O3 -o target/filing_bench bench/filing.c $(LIB)/liblexicon_c.a
 	@target/filing_bench
+	@$(CC) $(CFLAGS) -O3 -o target/cox_bench bench/cox.c $(LIB)/liblexicon_c.a target/rust/release/libmiratope.a -lpthread -ldl -lm
+	@target/cox_bench
 
 target:
 	@mkdir -p target

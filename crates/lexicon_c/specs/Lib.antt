@@ -1,2 +1,3 @@
 -- What the calls for C promise.
 pub mod Answers
+pub mod Copies

@@ -64,3 +64,63 @@ pub unsafe extern "C" fn rust_parse(text: *const u8, len: usize) -> u32 {
         Err(e) => 256 + e.number(),
     }
 }
+
+/// The mirrors of a text (`Cd::cox`, `Cox::normals`) for a caller in C: the count of nodes, 0 where there are none. Row r of
+/// column c goes to `out[9 * c + r]`.
+///
+/// # Safety
+/// As for `rust_parse`; `out` points at `room` doubles, 81 or more, and the text has at most nine nodes.
+#[no_mangle]
+pub unsafe extern "C" fn rust_mirrors(text: *const u8, len: usize, out: *mut f64, room: usize) -> usize {
+    let out = std::slice::from_raw_parts_mut(out, room);
+    let Some(cox) = diagram(text, len).map(|cd| cd.cox()) else {
+        return 0;
+    };
+    let Some(normals) = cox.normals() else {
+        return 0;
+    };
+    put_matrix(out, cox.dim(), &normals);
+    cox.dim()
+}
+
+/// The generator of a text (`Cd::generator`) likewise: its coordinates, and its circumradius in `out[9]`.
+///
+/// # Safety
+/// As for `rust_mirrors`; `room` is 10 or more.
+#[no_mangle]
+pub unsafe extern "C" fn rust_generator(text: *const u8, len: usize, out: *mut f64, room: usize) -> usize {
+    let out = std::slice::from_raw_parts_mut(out, room);
+    let Some(point) = diagram(text, len).and_then(|cd| cd.generator()) else {
+        return 0;
+    };
+    let at = point.as_slice();
+    out[..at.len()].copy_from_slice(at);
+    out[9] = point.norm(); // as `Cd::circumradius`, which would make the generator anew
+    at.len()
+}
+
+/// The reflections of a text (`Cox::gen_iter`, its `gens`) likewise, a matrix after each 81 doubles.
+///
+/// # Safety
+/// As for `rust_mirrors`; `room` is 729 or more.
+#[no_mangle]
+pub unsafe extern "C" fn rust_reflections(text: *const u8, len: usize, out: *mut f64, room: usize) -> usize {
+    let out = std::slice::from_raw_parts_mut(out, room);
+    let Some(group) = diagram(text, len).and_then(|cd| cd.cox().gen_iter()) else {
+        return 0;
+    };
+    for (reflection, out) in group.gens.iter().zip(out.chunks_mut(81)) {
+        put_matrix(out, group.dim, reflection);
+    }
+    group.dim
+}
+
+unsafe fn diagram(text: *const u8, len: usize) -> Option<Cd> {
+    Cd::parse(std::str::from_utf8_unchecked(std::slice::from_raw_parts(text, len))).ok()
+}
+
+fn put_matrix(out: &mut [f64], dim: usize, matrix: &geometry::Matrix<f64>) {
+    for (column, out) in matrix.as_slice().chunks(dim.max(1)).zip(out.chunks_mut(9)) {
+        out[..dim].copy_from_slice(column);
+    }
+}

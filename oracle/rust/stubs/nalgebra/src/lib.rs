@@ -142,6 +142,10 @@ impl<T> DMatrix<T> {
         self.rows
     }
 
+    pub fn as_slice(&self) -> &[T] {
+        &self.data
+    }
+
     pub fn iter_mut(&mut self) -> impl Iterator<Item = &mut T> {
         self.data.iter_mut()
     }
