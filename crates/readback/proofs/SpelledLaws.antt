@@ -1,6 +1,6 @@
 -- The diagram that is read back shows what the bytes spell: its nodes stand one after another, and of the stored edges only that of the pair's own place
 -- joins a pair, none where the bytes spell a two. So it has the layouts of the spelled diagram. Assumes nothing.
-use mathlib.Core.Bool.{Bool, true, false, not, _||_, or-assoc}
+use mathlib.Core.Bool.{Bool, true, false, not, _||_}
 use mathlib.Core.List.{List, [], _∷_, _++_, append-nil}
 use mathlib.Core.Logic.{_≢_, inl, ⊎-elim}
 use mathlib.Core.Path.{_≡_, refl, sym, ap, _∙_, subst}
@@ -19,8 +19,7 @@ use Rattle.cd.specs.Diagrams.{Stored, joins, isJoined}
 use Rattle.cd.specs.Edges.{isTwo}
 use Rattle.cd.specs.declared.Edge.{Edge}
 use Rattle.cd.specs.declared.Node.the-variants.{Unringed}
-use Rattle.cd.proofs.Arrays.{Same}
-use Rattle.cd.proofs.Stored.{joins-same, joins-other}
+use Rattle.cd.proofs.Stored.{joins-same}
 use Rattle.filing.specs.Bytes.{blocks}
 use Rattle.filing.specs.Diagrams.{Diagram, IsNode, IsEdge, IsDiagram}
 use Rattle.filing.specs.Diagrams as filing
@@ -36,6 +35,7 @@ use Rattle.tables.specs.Tables.{IsNumber}
 use Rattle.tables.proofs.Joints.{two-edge, joint-symmetric}
 use Rattle.readback.specs.Spelled.{node, nodesTo, edgeOf, edgeAt, rowTo, edgesTo, nodesIn, edgesIn}
 use Rattle.readback.proofs.Nodes.{length-nodesTo}
+use Rattle.readback.proofs.StoredEdges.{blocks-apart, edge-apart}
 
 -- ---- nodes
 
@@ -103,16 +103,6 @@ module _ (i j : ℕ) where
   joint-right : (es fs : List Stored) → Clear es → joint (es ++ fs) i j ≡ joint fs i j
   joint-right es fs c = joint-append es fs ∙ rw c
 
-  joined-append : (es fs : List Stored) → isJoined (es ++ fs) i j ≡ isJoined es i j || isJoined fs i j
-  unfolding isJoined
-  joined-append [] fs = refl
-  joined-append (s ∷ es) fs = rw (joined-append es fs) (sym (or-assoc (joins i j s) (isJoined es i j) (isJoined fs i j)))
-
-  clear-blocks : (g : ℕ → List Stored) (n : ℕ) → ((k : ℕ) → k < n → Clear (g k)) → Clear (blocks g n)
-  unfolding blocks isJoined
-  clear-blocks g zero c = refl
-  clear-blocks g (suc n) c = rw (joined-append (blocks g n) (g n), clear-blocks g n (λ k h. c k (omega arith)), c n (le-refl (suc n)))
-
   -- of blocks, where only block k may join the two
   joint-blocks : (g : ℕ → List Stored) (n k : ℕ) → k < n → ((m : ℕ) → m < n → m ≢ k → Clear (g m)) → joint (blocks g n) i j ≡ joint (g k) i j
   unfolding blocks
@@ -120,14 +110,9 @@ module _ (i j : ℕ) where
   joint-blocks g (suc n) k h c =
       one-more (λ k. ((m : ℕ) → m < suc n → m ≢ k → Clear (g m)) → joint (blocks g n ++ g n) i j ≡ joint (g k) i j)
       (λ k l d. joint-left (blocks g n) (g n) (d n (le-refl (suc n)) (omega arith)) ∙ joint-blocks g n k l (λ m o. d m (omega arith)))
-      (λ d. joint-right (blocks g n) (g n) (clear-blocks g n (λ m o. d m (omega arith) (omega arith)))) k h c
+      (λ d. joint-right (blocks g n) (g n) (blocks-apart g i j n (λ m o. d m (omega arith) (omega arith)))) k h c
 
   -- of one edge that is stored unless t
-  clear-stored : (t : Bool) (s : Stored) → joins i j s ≡ false → Clear (pick t [] (s ∷ []))
-  unfolding isJoined
-  clear-stored true s h = refl
-  clear-stored false s h = rw h
-
   joint-stored : (t : Bool) (s : Stored) → joins i j s ≡ true → joint (pick t [] (s ∷ [])) i j ≡ pick t two (fraction (s .edge))
   unfolding joint
   joint-stored true s h = refl
@@ -157,16 +142,6 @@ unfolding kept
 kept-edge x h = picked-edge (isTwo (edgeOf x)) x h
 
 module _ (N : ℕ) (l : List ℕ) where
-  edge-clear : (i j m k : ℕ) → (Same k m i j → ⊥) → Clear i j (edgeAt N l m k)
-  unfolding edgeAt
-  edge-clear i j m k h = clear-stored i j (isTwo e) s (joins-other i j s h)
-    where
-      e : Edge
-      e = edgeOf (fractionAt l (pairPlace N k m))
-
-      s : Stored
-      s = record { first = k; other = m; edge = e }
-
   joint-edgeAt : (i j : ℕ) → joint (edgeAt N l j i) i j ≡ kept (fractionAt l (pairPlace N i j))
   unfolding edgeAt kept
   joint-edgeAt i j =
@@ -177,8 +152,8 @@ module _ (N : ℕ) (l : List ℕ) where
   joint-rising : (n i j : ℕ) → i < j → j < n → joint (edgesTo N l n) i j ≡ kept (fractionAt l (pairPlace N i j))
   unfolding edgesTo rowTo
   joint-rising n i j h k =
-      joint-blocks i j (λ m. rowTo N l m m) n j k (λ m o ne. clear-blocks i j (edgeAt N l m) m (λ t q. edge-clear i j m t (⊎-elim (λ e. ne (e .1)) (λ e. omega arith))))
-      ∙ joint-blocks i j (edgeAt N l j) j i h (λ m o ne. edge-clear i j j m (⊎-elim (λ e. ne (e .0)) (λ e. omega arith)))
+      joint-blocks i j (λ m. rowTo N l m m) n j k (λ m o ne. blocks-apart (edgeAt N l m) i j m (λ t q. edge-apart N l m t i j (⊎-elim (λ e. ne (e .1)) (λ e. omega arith))))
+      ∙ joint-blocks i j (edgeAt N l j) j i h (λ m o ne. edge-apart N l j m i j (⊎-elim (λ e. ne (e .0)) (λ e. omega arith)))
       ∙ joint-edgeAt i j
 
 -- ---- the diagram that is read back

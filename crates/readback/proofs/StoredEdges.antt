@@ -34,7 +34,7 @@ joined-append [] b i j = refl
 joined-append (s ∷ a) b i j = rw (joined-append a b i j) (sym (or-assoc (joins i j s) (isJoined a i j) (isJoined b i j)))
 
 module _ (g : ℕ → List Stored) where
-  blocks-apart : (i j n : ℕ) → ((k : ℕ) → k < n → isJoined (g k) i j ≡ false) → isJoined (blocks g n) i j ≡ false
+  pub blocks-apart : (i j n : ℕ) → ((k : ℕ) → k < n → isJoined (g k) i j ≡ false) → isJoined (blocks g n) i j ≡ false
   unfolding blocks isJoined
   blocks-apart i j zero h = refl
   blocks-apart i j (suc n) h = joined-append (blocks g n) (g n) i j ∙ rw (blocks-apart i j n (λ k l. h k (omega arith)), h n (le-refl (suc n)))
@@ -64,7 +64,7 @@ module _ (N : ℕ) (l : List ℕ) where
   abbrev joining : ℕ → ℕ → Stored
   joining a b = record { first = a; other = b; edge = edge a b }
 
-  edge-apart : (b a i j : ℕ) → (Same a b i j → ⊥) → isJoined (edgeAt N l b a) i j ≡ false
+  pub edge-apart : (b a i j : ℕ) → (Same a b i j → ⊥) → isJoined (edgeAt N l b a) i j ≡ false
   unfolding edgeAt
   edge-apart b a i j h = one-apart (isTwo (edge a b)) (joining a b) i j (joins-other i j (joining a b) h)
 
