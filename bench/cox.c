@@ -3,16 +3,16 @@
 #define _POSIX_C_SOURCE 200809L // clock_gettime
 #include <stdint.h>
 #include <stdio.h>
-#include <stdlib.h>
 #include <string.h>
-#include <time.h>
+
+#include "timing.h"
 
 typedef size_t geometry(const uint8_t *text, size_t len, double *out, size_t room);
 
 geometry lexicon_mirrors, lexicon_generator, lexicon_reflections;
 geometry rust_mirrors, rust_generator, rust_reflections;
 
-enum { RUNS = 5, LIMIT = 9, ROOM = LIMIT * LIMIT * LIMIT };
+enum { LIMIT = 9, ROOM = LIMIT * LIMIT * LIMIT };
 
 static double ours[ROOM], rusts[ROOM];
 static volatile double kept; // so that no call is dropped
@@ -52,13 +52,6 @@ static const struct call {
     {"reflections", lexicon_reflections, rust_reflections, same_reflections},
 };
 
-static double now(void)
-{
-    struct timespec t;
-    clock_gettime(CLOCK_MONOTONIC, &t);
-    return (double)t.tv_sec + (double)t.tv_nsec * 1e-9;
-}
-
 // The seconds of so many turns.
 static double seconds(geometry *f, const char *text, double *out, uint64_t turns)
 {
@@ -78,18 +71,6 @@ static uint64_t turns_of(geometry *f, const char *text, double *out)
     while ((took = seconds(f, text, out, turns)) < 0.02)
         turns *= 2;
     return (uint64_t)((double)turns * 0.1 / took) + 1;
-}
-
-static int by_size(const void *a, const void *b)
-{
-    double x = *(const double *)a, y = *(const double *)b;
-    return (x > y) - (x < y);
-}
-
-static double median(double *values)
-{
-    qsort(values, RUNS, sizeof *values, by_size);
-    return values[RUNS / 2];
 }
 
 static void check(const struct call *call, const char *text)

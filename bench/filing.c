@@ -3,13 +3,13 @@
 #define _POSIX_C_SOURCE 200809L // clock_gettime
 #include <stdint.h>
 #include <stdio.h>
-#include <stdlib.h>
 #include <string.h>
-#include <time.h>
+
+#include "timing.h"
 
 size_t lexicon_write_record(const uint8_t *text, size_t len, uint8_t *out, size_t out_len);
 
-enum { RUNS = 5, LIMIT = 9, RECORD = 370 };
+enum { LIMIT = 9, RECORD = 370 };
 
 // The nodes' kinds and value bits, and for two nodes num, then den, in lowest terms.
 struct figure {
@@ -90,13 +90,6 @@ static void proved(const struct figure *f, uint8_t *out)
         abort();
 }
 
-static double now(void)
-{
-    struct timespec t;
-    clock_gettime(CLOCK_MONOTONIC, &t);
-    return (double)t.tv_sec + (double)t.tv_nsec * 1e-9;
-}
-
 static double seconds(void (*file)(const struct figure *, uint8_t *), const struct figure *f, long turns)
 {
     uint8_t out[RECORD];
@@ -104,12 +97,6 @@ static double seconds(void (*file)(const struct figure *, uint8_t *), const stru
     for (long i = 0; i < turns; i++)
         file(f, out);
     return now() - start;
-}
-
-static int by_size(const void *a, const void *b)
-{
-    double x = *(const double *)a, y = *(const double *)b;
-    return (x > y) - (x < y);
 }
 
 static void row(const struct figure *f)
@@ -128,10 +115,9 @@ static void row(const struct figure *f)
         b[r] = seconds(plain, f, turns) / (double)turns;
         ratio[r] = a[r] / b[r];
     }
-    qsort(a, RUNS, sizeof *a, by_size);
-    qsort(b, RUNS, sizeof *b, by_size);
-    qsort(ratio, RUNS, sizeof *ratio, by_size);
-    printf("| %s | %.1f | %.1f | %.2f | %.2f | %.2f |\n", f->text, a[RUNS / 2] * 1e6, b[RUNS / 2] * 1e6, a[RUNS / 2] / b[RUNS / 2], ratio[0], ratio[RUNS - 1]);
+    double took = median(a), plainly = median(b);
+    median(ratio); // sorts them
+    printf("| %s | %.1f | %.1f | %.2f | %.2f | %.2f |\n", f->text, took * 1e6, plainly * 1e6, took / plainly, ratio[0], ratio[RUNS - 1]);
 }
 
 // n nodes of one kind in a chain of 3s, or unjoined.

@@ -3,16 +3,16 @@
 #define _POSIX_C_SOURCE 199309L // clock_gettime
 #include <stdint.h>
 #include <stdio.h>
-#include <stdlib.h>
 #include <string.h>
-#include <time.h>
+
+#include "timing.h"
 
 double float_fsqrt(double v);
 double float_fcos(double a);
 double plain_sqrt(double v); // float_plain.c
 double plain_fcos(double a);
 
-enum { INPUTS = 4096, RUNS = 5 };
+enum { INPUTS = 4096 };
 
 typedef double function(double);
 
@@ -32,13 +32,6 @@ static uint64_t rnd(void)
     state ^= state >> 7;
     state ^= state << 17;
     return state;
-}
-
-static double now(void)
-{
-    struct timespec t;
-    clock_gettime(CLOCK_MONOTONIC, &t);
-    return (double)t.tv_sec + (double)t.tv_nsec * 1e-9;
 }
 
 // The seconds of so many turns over the inputs.
@@ -66,17 +59,6 @@ static void measure(struct side *s, const double *inputs, int run)
     s->ns[run] = seconds(s->call, inputs, s->repeats) * 1e9 / ((double)s->repeats * INPUTS);
 }
 
-static int by_size(const void *a, const void *b)
-{
-    double x = *(const double *)a, y = *(const double *)b;
-    return (x > y) - (x < y);
-}
-
-static void sort(double *values)
-{
-    qsort(values, RUNS, sizeof *values, by_size);
-}
-
 // The sides take turns, so that what slows the machine for a while slows both.
 static void row(const char *name, function *proved, function *plain, const double *inputs)
 {
@@ -89,10 +71,8 @@ static void row(const char *name, function *proved, function *plain, const doubl
         measure(&b, inputs, run);
         ratios[run] = a.ns[run] / b.ns[run];
     }
-    sort(a.ns);
-    sort(b.ns);
-    sort(ratios);
-    double ours = a.ns[RUNS / 2], theirs = b.ns[RUNS / 2];
+    double ours = median(a.ns), theirs = median(b.ns);
+    median(ratios); // sorts them
     printf("| %s | %.2f | %.2f | %.2f | %.2f | %.2f |\n", name, ours, theirs, ours / theirs, ratios[0], ratios[RUNS - 1]);
 }
 

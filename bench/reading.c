@@ -3,15 +3,15 @@
 #define _POSIX_C_SOURCE 200809L // clock_gettime, getline
 #include <stdint.h>
 #include <stdio.h>
-#include <stdlib.h>
 #include <string.h>
-#include <time.h>
+
+#include "timing.h"
 
 size_t parse_answer(const uint8_t *text, size_t len);
 size_t parse_nodes(const uint8_t *text, size_t len);
 uint32_t rust_parse(const uint8_t *text, size_t len);
 
-enum { RUNS = 5, MOST = 2000 };
+enum { MOST = 2000 };
 
 typedef size_t reader(const uint8_t *, size_t);
 
@@ -26,13 +26,6 @@ static volatile size_t kept; // so that no call is dropped
 static size_t rust(const uint8_t *text, size_t len)
 {
     return rust_parse(text, len);
-}
-
-static double now(void)
-{
-    struct timespec t;
-    clock_gettime(CLOCK_MONOTONIC, &t);
-    return (double)t.tv_sec + (double)t.tv_nsec * 1e-9;
 }
 
 // The seconds of so many turns over the texts.
@@ -57,18 +50,6 @@ static uint64_t turns_of(reader *read, const struct texts *t)
     while ((took = seconds(read, t, turns)) < 0.02)
         turns *= 2;
     return (uint64_t)((double)turns * 0.1 / took) + 1;
-}
-
-static int by_size(const void *a, const void *b)
-{
-    double x = *(const double *)a, y = *(const double *)b;
-    return (x > y) - (x < y);
-}
-
-static double median(double *values)
-{
-    qsort(values, RUNS, sizeof *values, by_size);
-    return values[RUNS / 2];
 }
 
 // The three take turns, so that what slows the machine for a while slows all. A ratio is the Rust's time by ours.

@@ -15,6 +15,7 @@ import sys
 import chance
 import corpus
 import model
+import stored
 
 TOP = pathlib.Path(__file__).parent.parent
 READING = TOP / "target/rust/release/reading"
@@ -25,20 +26,8 @@ def main(mode="check", *numbers):
     texts = list(stress(*map(int, numbers)) if mode == "stress" else corpus.corpus())
     answers, tally = compare(texts)
     if mode != "stress":
-        files = {"stdin": lines(texts), "stdout": lines(answer.encode() for answer in answers)}
-        for name, content in files.items():
-            if mode == "write":
-                (STORED / name).write_bytes(content)
-            elif (STORED / name).read_bytes() != content:
-                tally["differ"] += 1
-                print(f"{STORED / name} is not what is made here")
-    for what in sorted(tally):
-        print(f"{tally[what]:8} {what}")
-    sys.exit(tally["differ"] > 0)
-
-
-def lines(texts):
-    return b"".join(text + b"\n" for text in texts)
+        stored.settle(STORED, mode, texts, answers, tally)
+    stored.close(tally)
 
 
 def stress(count, seed=1):
@@ -49,7 +38,7 @@ def stress(count, seed=1):
 
 def compare(texts):
     """The answers, and how many there are of each sort."""
-    rusts = subprocess.run([READING], input=lines(texts), stdout=subprocess.PIPE, check=True).stdout.decode().splitlines()
+    rusts = subprocess.run([READING], input=stored.ended(texts), stdout=subprocess.PIPE, check=True).stdout.decode().splitlines()
     assert len(rusts) == len(texts)
 
     answers, tally = [], collections.Counter({"texts": len(texts), "different texts": len(set(texts)), "differ": 0})

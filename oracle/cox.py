@@ -27,6 +27,7 @@ import sys
 
 import answers
 import model
+import stored
 from model import Refusal
 
 TOP = pathlib.Path(__file__).parent.parent
@@ -166,18 +167,8 @@ def main(mode="check", *numbers):
     expected = cox_corpus.stress(*map(int, numbers)) if mode == "stress" else cox_corpus.corpus()
     replies, tally = compare(expected)
     if mode != "stress":
-        for name, content in {"stdin": expected, "stdout": replies}.items():
-            content = answers.lines(content)
-            tally[f"bytes of {name}"] = len(content)
-            if mode == "write":
-                STORED.mkdir(exist_ok=True)
-                (STORED / name).write_bytes(content)
-            elif (STORED / name).read_bytes() != content:
-                tally["differ"] += 1
-                print(f"{STORED / name} is not what is made here")
-    for what in sorted(tally):
-        print(f"{tally[what]:8} {what}")
-    sys.exit(tally["differ"] > 0)
+        stored.settle(STORED, mode, expected, replies, tally)
+    stored.close(tally)
 
 
 def compare(expected):
@@ -209,7 +200,7 @@ def of_the_rust(lines):
     """Its answers, or none at all where it can't be built, which oracle/build says."""
     if subprocess.run([BUILD]).returncode != 0:
         return []
-    out = subprocess.run([COX], input=answers.lines(lines), stdout=subprocess.PIPE, check=True).stdout.decode().splitlines()
+    out = subprocess.run([COX], input=stored.ended(lines), stdout=subprocess.PIPE, check=True).stdout.decode().splitlines()
     assert len(out) == len(lines)
     return out
 

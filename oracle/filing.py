@@ -25,6 +25,7 @@ import struct
 import sys
 
 import model
+import stored
 
 STORED = pathlib.Path(__file__).parent.parent / "crates/replay_filing"
 
@@ -214,20 +215,10 @@ def main(mode="check"):
         tally["lines"] += 1
         tally[sort(line, ours)] += 1
         lines.append(line)
-        answers.append(ours.encode())
+        answers.append(ours)
 
-    for name, content in {"stdin": lines, "stdout": answers}.items():
-        content = b"".join(line + b"\n" for line in content)
-        tally[f"bytes of {name}"] = len(content)
-        if mode == "write":
-            STORED.mkdir(exist_ok=True)
-            (STORED / name).write_bytes(content)
-        elif (STORED / name).read_bytes() != content:
-            tally["differ"] += 1
-            print(f"{STORED / name} is not what is made here")
-    for what in sorted(tally):
-        print(f"{tally[what]:8} {what}")
-    sys.exit(tally["differ"] > 0)
+    stored.settle(STORED, mode, lines, answers, tally)
+    stored.close(tally)
 
 
 def sort(line, answer):

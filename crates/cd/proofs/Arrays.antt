@@ -173,7 +173,7 @@ module _ {A : Type 0} (f : ℕ → ℕ → A) (d : A) where
 
 -- ---- a store
 
-set-append-add : {A : Type 0} (xs ys : List A) (n : ℕ) (v : A) → set (xs ++ ys) (length xs + n) v ≡ xs ++ set ys n v
+pub set-append-add : {A : Type 0} (xs ys : List A) (n : ℕ) (v : A) → set (xs ++ ys) (length xs + n) v ≡ xs ++ set ys n v
 set-append-add [] ys n v = rw zero-add
 set-append-add (x ∷ xs) ys n v = rw (suc-add, set-append-add xs ys n v)
 

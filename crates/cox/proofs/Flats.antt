@@ -4,14 +4,15 @@ use mathlib.Core.List.{List, [], _∷_, _++_}
 use mathlib.Core.Logic.{_≢_, ⊎-elim}
 use mathlib.Core.Path.{_≡_, refl, sym, ap, ap₂, _∙_}
 use Prim.Native.Nat.{ℕ, zero, suc, _+_, _*_, _<_}
-use native.Mathlib.Nat.{one-mul, zero-add, suc-add, not-suc-le-zero, le-refl, le-of-suc-le-suc, eq-or-lt-of-le, mul-le-mul-left}
+use native.Mathlib.Nat.{not-suc-le-zero, le-refl, le-of-suc-le-suc, eq-or-lt-of-le, mul-le-mul-left}
 use native.Mathlib.Omega.{arith}
 use borrow.Author.Tests.{eq-eqb, ne-eqb}
 use lib.Ieee.{Float}
 use lib.ListN.{length, getD, set, List·getD-append}
-use lib.Seq.{getD-at, getD-append-add, set-append-left, set-at}
+use lib.Seq.{getD-append-add, set-append-left, set-at}
 use Rattle.filing.specs.Bytes.{blocks}
-use Rattle.filing.proofs.Bytes.{blocks-same, blocks-split, length-blocks, one-more}
+use Rattle.cd.proofs.Arrays.{set-append-add}
+use Rattle.filing.proofs.Bytes.{blocks-same, blocks-split, length-blocks, length-singles, singles-at, one-more}
 use Rattle.cox.specs.Squares.{Square, put, flat, flatSquare}
 
 -- ---- a row
@@ -19,7 +20,7 @@ use Rattle.cox.specs.Squares.{Square, put, flat, flatSquare}
 module _ {A : Type 0} where
   pub length-flat : (N : ℕ) (f : ℕ → A) → length (flat N f) ≡ N
   unfolding flat
-  length-flat N f = length-blocks _ 1 N (λ i h. refl) ∙ one-mul N
+  length-flat N f = length-singles f N
 
   pub flat-same : (N : ℕ) (f g : ℕ → A) → ((i : ℕ) → i < N → f i ≡ g i) → flat N f ≡ flat N g
   unfolding flat
@@ -27,7 +28,7 @@ module _ {A : Type 0} where
 
   pub flat-at : (N : ℕ) (f : ℕ → A) (d : A) (i : ℕ) → i < N → getD (flat N f) i d ≡ f i
   unfolding flat
-  flat-at N f d i h = let (rest, e) = blocks-split (λ k. f k ∷ []) N i h in rw e (getD-at (flat i f) (f i) rest d i (length-flat i f))
+  flat-at N f d i h = singles-at f N d i h
 
   -- the row with v in place i
   pub flat-set : (N : ℕ) (f g : ℕ → A) (i : ℕ) (v : A) → i < N → g i ≡ v → ((k : ℕ) → k < N → k ≢ i → g k ≡ f k) → set (flat N f) i v ≡ flat N g
@@ -40,10 +41,6 @@ module _ {A : Type 0} where
       (λ e o. set-at (flat N f) (f N) [] v N (length-flat N f)
       ∙ ap₂ (λ x y. x ++ (y ∷ [])) (flat-same N f g (λ m q. sym (o m (omega arith) (omega arith)))) (sym e))
       i h e o
-
-set-append-add : {A : Type 0} (xs ys : List A) (n : ℕ) (v : A) → set (xs ++ ys) (length xs + n) v ≡ xs ++ set ys n v
-set-append-add [] ys n v = rw zero-add
-set-append-add (x ∷ xs) ys n v = rw (suc-add, set-append-add xs ys n v)
 
 -- ---- a square: K of its columns, of N rows each
 

@@ -5,13 +5,13 @@ use mathlib.Core.Logic.{_⊎_, inl, inr}
 use mathlib.Core.Path.{_≡_, refl, sym, ap, ap₂, _∙_}
 use Prim.Native.Nat.{ℕ, zero, suc, _+_, _*_, _%_, _^_, _≤_, _<_}
 use native.Mathlib.Nat.{mod-one, mod-eq-of-lt, pow-succ', one-le-pow, zero-lt-suc, suc-inj, suc-ne-zero, not-suc-le-zero, le-of-suc-le-suc, eq-or-lt-of-le, le-refl}
-use native.Mathlib.Nat.{zero-add, add-zero, suc-add, add-assoc, add-comm, mul-assoc, mul-add-div-right, mul-add-mod-self-right, div-div-eq-div-mul}
+use native.Mathlib.Nat.{one-mul, zero-add, add-zero, suc-add, add-assoc, add-comm, mul-assoc, mul-add-div-right, mul-add-mod-self-right, div-div-eq-div-mul}
 use native.Mathlib.Numerals.{add-one}
 use native.Mathlib.Omega.{arith}
 use lib.Arith.{mod-mul, digits-div}
-use lib.ListN.{length, take, drop, set, length-append, length-replicate, length-drop, take-append-drop}
+use lib.ListN.{length, getD, take, drop, set, length-append, length-replicate, length-drop, take-append-drop}
 use lib.Pow.{pow-add}
-use lib.Seq.{length-take-le, take-at, drop-at, drop-drop, set-split}
+use lib.Seq.{getD-at, length-take-le, take-at, drop-at, drop-drop, set-split}
 use Rattle.filing.specs.Bytes.{bytes, value, blocks, filled, written}
 
 -- ---- a number in k bytes
@@ -93,6 +93,14 @@ blocks-split g zero i h = absurd (not-suc-le-zero h)
 blocks-split {A = A} g (suc n) i h =
     one-more (λ k. (rest : List A) × (blocks g n ++ g n ≡ blocks g k ++ (g k ++ rest)))
     (λ k l. let (rest, e) = blocks-split g n k l in (rest ++ g n, rw e (simp append-assoc))) ([], rw append-nil) i h
+
+-- blocks of one element each: a list by a function of the place
+module _ {A : Type 0} (f : ℕ → A) where
+  pub length-singles : (n : ℕ) → length (blocks (λ i. f i ∷ []) n) ≡ n
+  length-singles n = length-blocks _ 1 n (λ i h. refl) ∙ one-mul n
+
+  pub singles-at : (n : ℕ) (d : A) (i : ℕ) → i < n → getD (blocks (λ i. f i ∷ []) n) i d ≡ f i
+  singles-at n d i h = let (rest, e) = blocks-split (λ k. f k ∷ []) n i h in rw e (getD-at (blocks (λ k. f k ∷ []) i) (f i) rest d i (length-singles i))
 
 -- ---- a part filled up
 

@@ -1,19 +1,19 @@
 -- A search depth first, place by place: what goes on from k places has at place k a node that no earlier place has, so the best of those nodes' searches is
 -- the best of all. It finds a smallest layout, so every diagram has a record. Assumes nothing.
-use mathlib.Core.List.{List, [], _∷_}
+use mathlib.Core.List.{List}
 use mathlib.Core.Logic.{_≢_, _⊎_, inl, inr}
 use mathlib.Core.Path.{_≡_, refl, sym, _∙_}
 use Prim.Native.Nat.{ℕ, zero, suc, _+_, _≤_, _<_}
-use native.Mathlib.Nat.{not-suc-le-zero, le-refl, le-trans, one-mul, add-zero}
+use native.Mathlib.Nat.{not-suc-le-zero, le-refl, le-trans, add-zero}
 use native.Mathlib.Omega.{arith}
-use lib.ListN.{length, set, length-set, List·getD-append}
-use lib.Seq.{getD-at, getD-set-same, getD-set-other}
+use lib.ListN.{length, set, length-set}
+use lib.Seq.{getD-set-same, getD-set-other}
 use Rattle.filing.specs.Bytes.{_≼_}
 use Rattle.filing.specs.Diagrams.{Diagram}
 use Rattle.filing.specs.Numberings.{Injects, at, plain}
 use Rattle.filing.specs.Records.{layout, IsRecord}
 use Rattle.filing.specs.Searching.{IsNumbering, Covers, Below, Improves, Partly}
-use Rattle.filing.proofs.Bytes.{one-more, length-blocks}
+use Rattle.filing.proofs.Bytes.{one-more, length-singles, singles-at}
 use Rattle.filing.proofs.Layouts.{layout-local}
 use Rattle.filing.proofs.Numberings.{Found, find, injects-all}
 use Rattle.filing.proofs.Order.{≼-refl, ≼-trans, ≼-total}
@@ -22,15 +22,11 @@ use Rattle.filing.proofs.Order.{≼-refl, ≼-trans, ≼-total}
 
 pub length-plain : (n : ℕ) → length (plain n) ≡ n
 unfolding plain
-length-plain n = length-blocks _ 1 n (λ i h. refl) ∙ one-mul n
+length-plain n = length-singles (λ i. i) n
 
 pub at-plain : (n i : ℕ) → i < n → at (plain n) i ≡ i
 unfolding plain
-at-plain zero i h = absurd (not-suc-le-zero h)
-at-plain (suc n) i h =
-    one-more (λ j. at (plain (suc n)) j ≡ j)
-    (λ j l. List·getD-append (plain n) (n ∷ []) 0 j (rw (length-plain n) l) ∙ at-plain n j l)
-    (getD-at (plain n) n [] 0 n (length-plain n)) i h
+at-plain n i h = singles-at (λ j. j) n 0 i h
 
 -- also as the first n places of a longer one
 pub plain-front : {n m : ℕ} → n ≤ m → IsNumbering n (plain m)

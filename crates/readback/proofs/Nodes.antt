@@ -5,7 +5,6 @@ use mathlib.Core.Logic.{_⊎_, inl, inr}
 use mathlib.Core.Path.{_≡_, refl, _∙_}
 use Prim.Native.Nat.{ℕ, _+_, _*_, _%_, _^_, _≤_, _<_}
 use native.Mathlib.Decide.{decLt}
-use native.Mathlib.Nat.{one-mul}
 use native.Mathlib.Numerals.{add-one}
 use native.Mathlib.Omega.{arith}
 use borrow.Author.Tests.{eqb-true, not-true, lt-ltb, le-ltb, lt-leb, le-leb, eq-eqb, ne-eqb}
@@ -22,7 +21,7 @@ use Rattle.filing.specs.Bytes.{blocks}
 use Rattle.filing.specs.Diagrams.{Node, IsNode}
 use Rattle.filing.specs.Readable.{numberAt, nodeAt}
 use Rattle.filing.specs.Records.{nodeLength}
-use Rattle.filing.proofs.Bytes.{length-blocks}
+use Rattle.filing.proofs.Bytes.{length-singles}
 use Rattle.readback.specs.Spelled.{node, nodesTo}
 use Rattle.readback.proofs.Decided.{decides-no}
 
@@ -82,7 +81,7 @@ node-read l i x e = let s : 2 + nodeLength * i ≡ 1 + nodeLength * i + 1 = omeg
 
 pub length-nodesTo : (l : List ℕ) (n : ℕ) → length (nodesTo l n) ≡ n
 unfolding nodesTo
-length-nodesTo l n = length-blocks _ 1 n (λ i h. refl) ∙ one-mul n
+length-nodesTo l n = length-singles (λ i. node (nodeAt l i)) n
 
 pub nodes-none : (l : List ℕ) → nodesTo l 0 ≡ []
 unfolding nodesTo blocks

@@ -13,7 +13,6 @@ use lib.Dec.{T}
 use lib.Ieee.{binary64, ofBits, toBits, nanBits}
 use lib.Ieee.Bits.{toBits-ofBits, nanBits-is}
 use lib.ListN.{length, getD}
-use lib.Seq.{getD-at}
 use Rattle.float.specs.Pick.{pick}
 use Rattle.cd.specs.Diagrams.{Stored, joins, isJoined}
 use Rattle.cd.specs.Edges.{isTwo}
@@ -27,7 +26,7 @@ use Rattle.filing.specs.Fractions.{Fraction, SameFraction}
 use Rattle.filing.specs.Numberings.{Numbering}
 use Rattle.filing.specs.Readable.{nodeAt, fractionAt, pairPlace, spelled}
 use Rattle.filing.specs.Records.{layout}
-use Rattle.filing.proofs.Bytes.{blocks-split, one-more}
+use Rattle.filing.proofs.Bytes.{singles-at, one-more}
 use Rattle.filing.proofs.Filing.{layout-same}
 use Rattle.filing.proofs.Numberings.{differ}
 use Rattle.tables.specs.Diagrams.{filed, fraction, two, joint, diagram}
@@ -70,9 +69,7 @@ module _ (v : filing.Node) (h : IsNode v) where
 
 pub nodesTo-at : (l : List ℕ) (n i : ℕ) → i < n → getD (nodesTo l n) i Unringed ≡ node (nodeAt l i)
 unfolding nodesTo
-nodesTo-at l n i h =
-    let (rest, e) = blocks-split (λ k. node (nodeAt l k) ∷ []) n i h in
-    rw e (getD-at (nodesTo l i) (node (nodeAt l i)) rest Unringed i (length-nodesTo l i))
+nodesTo-at l n i h = singles-at (λ k. node (nodeAt l k)) n Unringed i h
 
 -- ---- the fraction between two nodes, of lists end to end
 
