@@ -3,6 +3,7 @@ ghost use mathlib.Core.List.{[], _∷_};
 ghost use mathlib.Core.Path.{_≡_};
 ghost use Prim.Native.Nat.{_<_, _≤_};
 ghost use lib.ListN.{take};
+ghost use Rattle.cd.specs.Arrays.{padded};
 ghost use Rattle.cd.specs.Letters.{letterOf};
 ghost use Rattle.cd.specs.Edges.{isEdge, isTwo};
 ghost use Rattle.cd.specs.References.{indexOf, endsOf};
@@ -69,9 +70,9 @@ pub struct Numbers {
     pub count: usize,
 }
 
-// A refusal's number in document 01 and its fields, in the order given there.
+// A refusal's number in document 01 and its fields, in the order given there; zeros past them.
 pub fn figures(e: CdError) -> Numbers
-    ensures { λ r. ⌜ (take (r .count) (r .at) ≡ numberOf e) × (r .count ≤ 4) ⌝ }
+    ensures { λ r. ⌜ (take (r .count) (r .at) ≡ numberOf e) × (r .count ≤ 4) × (r .at ≡ padded 0 4 (numberOf e)) ⌝ }
 {
     match e {
         CdError::TooLong { pos } => one_field(1, pos),
@@ -101,7 +102,7 @@ pub fn figures(e: CdError) -> Numbers
 }
 
 fn one_field(number: usize, field: usize) -> Numbers
-    ensures { λ r. ⌜ (take (r .count) (r .at) ≡ number ∷ field ∷ []) × (r .count ≤ 4) ⌝ }
+    ensures { λ r. ⌜ (take (r .count) (r .at) ≡ number ∷ field ∷ []) × (r .count ≤ 4) × (r .at ≡ number ∷ field ∷ 0 ∷ 0 ∷ []) ⌝ }
 {
     Numbers {
         at: [number, field, 0, 0],
@@ -110,7 +111,7 @@ fn one_field(number: usize, field: usize) -> Numbers
 }
 
 fn no_field(number: usize) -> Numbers
-    ensures { λ r. ⌜ (take (r .count) (r .at) ≡ number ∷ []) × (r .count ≤ 4) ⌝ }
+    ensures { λ r. ⌜ (take (r .count) (r .at) ≡ number ∷ []) × (r .count ≤ 4) × (r .at ≡ number ∷ 0 ∷ 0 ∷ 0 ∷ []) ⌝ }
 {
     Numbers {
         at: [number, 0, 0, 0],

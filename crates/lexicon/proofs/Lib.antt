@@ -1,7 +1,7 @@
-mod Answers
+pub mod Answers
 mod SoundNodes
 mod Sound
-mod Fileable
+pub mod Fileable
 pub mod Demand3
 mod FilingsRight
 pub mod Shapes

@@ -1,3 +1,4 @@
 -- What the calls for C promise.
-pub mod Answers
-pub mod Copies
+pub mod Outcomes
+pub mod Shown
+pub mod Calls

@@ -57,7 +57,7 @@ fn pair_number(p: Pair) -> u64
     lowest(e)
 }
 
-fn kind(n: Node) -> u8
+pub fn kind(n: Node) -> u8
     ensures { λ r. ⌜ r ≡ filed n .kind ⌝ }
 {
     match n {
@@ -68,7 +68,7 @@ fn kind(n: Node) -> u8
 }
 
 // The 64 bits of a node's value.
-fn bits(n: Node) -> u64
+pub fn bits(n: Node) -> u64
     requires { ⌜ IsNumber n ⌝ }
     ensures { λ r. ⌜ r ≡ filed n .bits ⌝ }
 {

@@ -1,5 +1,6 @@
 -- `cd::figures` meets its contract: a case of the definition for each return. Assumes nothing.
 use borrow.Author.Needs.{needs}
+use Rattle.cd.specs.Arrays.{padded}
 use Rattle.cd.specs.Refusals.{numberOf}
 use Rattle.cd.proofs.figures.Statement.{statement}
 use Rattle.cd.proofs.figures.Tie as tie
@@ -107,71 +108,71 @@ no-field-requires-4 : tie.Need-no-field-requires-4
 no-field-requires-4 c κs = search needs
 
 returns : tie.Need-returns
-unfolding numberOf
+unfolding numberOf padded
 returns c = rw (c .before .before .e .given .1) (c .one-field .ensures)
 
 returns-2 : tie.Need-returns-2
-unfolding numberOf
+unfolding numberOf padded
 returns-2 c = rw (c .before .before .e2 .given .1) (c .one-field2 .ensures)
 
 returns-3 : tie.Need-returns-3
-unfolding numberOf
+unfolding numberOf padded
 returns-3 c = rw (c .before .before .e3 .given .1) (c .one-field3 .ensures)
 
 returns-4 : tie.Need-returns-4
-unfolding numberOf
+unfolding numberOf padded
 returns-4 c = rw (c .before .before .e4 .given .1) (c .one-field4 .ensures)
 
 returns-5 : tie.Need-returns-5
-unfolding numberOf
+unfolding numberOf padded
 returns-5 c = rw (c .before .before .e5 .given .1) (c .one-field5 .ensures)
 
 returns-6 : tie.Need-returns-6
-unfolding numberOf
+unfolding numberOf padded
 returns-6 c = rw (c .before .before .e6 .given .1) (c .one-field6 .ensures)
 
 returns-7 : tie.Need-returns-7
-unfolding numberOf
-returns-7 c = (rw (c .before .e7 .given .1), search needs)
+unfolding numberOf padded
+returns-7 c = (rw (c .before .e7 .given .1), search needs, rw (c .before .e7 .given .1))
 
 returns-8 : tie.Need-returns-8
-unfolding numberOf
-returns-8 c = (rw (c .before .e8 .given .1), search needs)
+unfolding numberOf padded
+returns-8 c = (rw (c .before .e8 .given .1), search needs, rw (c .before .e8 .given .1))
 
 returns-9 : tie.Need-returns-9
-unfolding numberOf
+unfolding numberOf padded
 returns-9 c = rw (c .before .before .e9 .given .1) (c .one-field7 .ensures)
 
 returns-10 : tie.Need-returns-10
-unfolding numberOf
+unfolding numberOf padded
 returns-10 c = rw (c .before .before .e10 .given .1) (c .one-field8 .ensures)
 
 returns-11 : tie.Need-returns-11
-unfolding numberOf
+unfolding numberOf padded
 returns-11 c = rw (c .before .before .e11 .given .1) (c .one-field9 .ensures)
 
 returns-12 : tie.Need-returns-12
-unfolding numberOf
+unfolding numberOf padded
 returns-12 c = rw (c .before .enum-told .given .1) (c .no-field .ensures)
 
 returns-13 : tie.Need-returns-13
-unfolding numberOf
+unfolding numberOf padded
 returns-13 c = rw (c .before .enum-told2 .given .1) (c .no-field2 .ensures)
 
 returns-14 : tie.Need-returns-14
-unfolding numberOf
+unfolding numberOf padded
 returns-14 c = rw (c .before .enum-told3 .given .1) (c .no-field3 .ensures)
 
 returns-15 : tie.Need-returns-15
-unfolding numberOf
+unfolding numberOf padded
 returns-15 c = rw (c .before .before .e12 .given .1) (c .one-field10 .ensures)
 
 returns-16 : tie.Need-returns-16
-unfolding numberOf
+unfolding numberOf padded
 returns-16 c = rw (c .before .before .e13 .given .1) (c .one-field11 .ensures)
 
 returns-17 : tie.Need-returns-17
-unfolding numberOf
+unfolding numberOf padded
 returns-17 c = rw (c .before .enum-told4 .given .1) (c .no-field4 .ensures)
 
 pub figures-spec : {M : Type 1} → statement M

@@ -1,6 +1,10 @@
 -- `lexicon_c::lexicon_write_record` meets its contract. Assumes nothing.
+use mathlib.Core.Path.{refl, ap, _∙_}
 use borrow.Author.Needs.{needs}
-use Rattle.lexicon_c.specs.Answers.{asNumber}
+use Rattle.cd.specs.Arrays.{padded}
+use Rattle.lexicon_c.specs.Calls.{replaced}
+use Rattle.lexicon_c.specs.Outcomes.{told}
+use Rattle.lexicon_c.specs.Shown.{outcome}
 use Rattle.lexicon_c.proofs.lexicon_write_record.Statement.{statement}
 use Rattle.lexicon_c.proofs.lexicon_write_record.Tie as tie
 
@@ -10,22 +14,46 @@ write-record-requires c κs = search needs
 enum-told : tie.Need-enum-told
 enum-told c = search needs
 
-enum-told-2 : tie.Need-enum-told-2
-enum-told-2 c = search needs
+tell-requires : tie.Need-tell-requires
+tell-requires c κs = search needs
+
+enum-known-a : tie.Need-enum-known-a
+enum-known-a c = search needs
+
+refuse-requires : tie.Need-refuse-requires
+refuse-requires c κs = search needs
 
 same-length : tie.Need-same-length
 same-length c = search needs
 
 returns : tie.Need-returns
-unfolding asNumber
-returns c = record { filed = _; files = c .before .before .before .before .write-record .ensures; number = rw (c .enum-told .given .1) }
+unfolding padded replaced outcome told
+returns c =
+    let f = c .before .before .before .before .before .before .before in
+    let e = c .before .before .before .enum-told .given .1 in
+    record {
+      filed = f .write-record .result;
+      files = f .write-record .ensures;
+      nodes = rw e refl;
+      answer = rw e (c .tell .ensures .0);
+      returned = c .tell .ensures .1;
+    }
 
 same-length-2 : tie.Need-same-length-2
 same-length-2 c = search needs
 
 returns-2 : tie.Need-returns-2
-unfolding asNumber
-returns-2 c = record { filed = _; files = c .before .before .before .before .write-record .ensures; number = rw (c .enum-told2 .given .1) }
+unfolding replaced outcome told
+returns-2 c =
+    let f = c .before .before .before .before .before .before .before in
+    let e = c .before .before .before .a .given .1 in
+    record {
+      filed = f .write-record .result;
+      files = f .write-record .ensures;
+      nodes = rw e refl;
+      answer = rw e (c .refuse .ensures .0);
+      returned = c .refuse .ensures .1;
+    }
 
 pub lexicon-write-record-spec : {M : Type 1} → statement M
 lexicon-write-record-spec =
@@ -33,7 +61,9 @@ lexicon-write-record-spec =
     (tie.spec
     write-record-requires
     enum-told
-    enum-told-2
+    tell-requires
+    enum-known-a
+    refuse-requires
     same-length
     returns
     same-length-2

@@ -1,21 +1,18 @@
 -- `lexicon_c::put` meets its contract. The invariant: the doubles passed are stored. Assumes nothing.
-use mathlib.Core.Path.{_≡_, refl, _∙_}
+use mathlib.Core.Path.{_≡_, refl, ap, _∙_}
 use Prim.Native.Nat.{_≤_, _-_}
 use borrow.Author.Needs.{needs}
 use lib.ListN.{length, take, length-set}
-use lib.Seq.{sets}
-use Rattle.lexicon_c.proofs.Copying.{sets-more, sets-end}
+use lib.Seq.{sets, take-all}
+use Rattle.lexicon_c.proofs.Copying.{sets-more}
 use Rattle.lexicon_c.proofs.put.Statement.{statement}
 use Rattle.lexicon_c.proofs.put.Tie as tie
 
 abbrev Inv-loop : tie.InvT-loop
-Inv-loop out₀ at from k i₀ out i = (i ≤ k) × (length out ≡ length out₀) × (out ≡ sets out₀ at (take i from))
+Inv-loop out₀ at from i₀ out i = (i ≤ length from) × (length out ≡ length out₀) × (out ≡ sets out₀ at (take i from))
 
 abbrev μ-loop : tie.MeasureT-loop
-μ-loop out₀ at from k i₀ out i = k - i
-
-reaching-requires : tie.Need-reaching-requires Inv-loop μ-loop
-reaching-requires c κs = search needs
+μ-loop out₀ at from i₀ out i = length from - i
 
 loop-holds : tie.Need-loop-holds Inv-loop μ-loop
 loop-holds c = (search needs, refl, refl)
@@ -52,8 +49,8 @@ same-length c = c .before .loop .inv .1
 returns : tie.Need-returns Inv-loop μ-loop
 returns c =
     let l = c .before .loop in
-    let a = c .before .before .before .before .before .args in
-    l .inv .2 ∙ sets-end (a .out .now) (a .from .now) (a .at) (l .i) (search needs)
+    let a = c .before .before .args in
+    l .inv .2 ∙ ap (sets (a .out .now) (a .at)) (take-all (l .i) (a .from .now) (search needs))
 
 pub put-spec : {M : Type 1} → statement M
 put-spec =
@@ -61,7 +58,6 @@ put-spec =
     (tie.spec
     Inv-loop
     μ-loop
-    reaching-requires
     loop-holds
     mul-out
     shared-slice-read-out

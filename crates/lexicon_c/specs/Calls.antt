@@ -1,0 +1,38 @@
+-- The promises of the calls whose promises in crates/lexicon are more than an equation: some answer that `lexicon` promises is what is told and shown.
+use mathlib.Core.List.{List, [], _∷_}
+use mathlib.Core.Path.{_≡_}
+use Prim.Native.Nat.{ℕ}
+use lib.ListN.{getD}
+use Rattle.lexicon.specs.Files.{Files}
+use Rattle.lexicon.specs.Reads.{Reads}
+use Rattle.lexicon.specs.ReadsRecord.{ReadsRecord}
+use Rattle.lexicon.specs.declared.Filed.{Filed}
+use Rattle.lexicon.specs.declared.Reading.{Reading}
+use Rattle.parse.specs.declared.Answer.{Answer}
+use Rattle.parse.specs.declared.Answer.the-variants as said
+use Rattle.parse.specs.declared.Read.{Read}
+use Rattle.lexicon_c.specs.Outcomes.{Lends, told}
+use Rattle.lexicon_c.specs.Shown.{outcome, ofReading, ofRecord}
+
+pub record ReadsForC (text out out′ answer′ : List ℕ) (r : ℕ) : Type 0 where
+  pub reading : Reading
+  pub reads : Reads text reading
+  pub lends : Lends (ofReading reading) out out′ answer′ r
+
+pub record ReadsRecordForC (bytes out out′ answer′ : List ℕ) (r : ℕ) : Type 0 where
+  pub read : Read
+  pub reads : ReadsRecord bytes read
+  pub lends : Lends (ofRecord read) out out′ answer′ r
+
+-- numbers that an answer replaces and a refusal leaves
+unfoldable pub replaced : Answer → List ℕ → List ℕ → List ℕ
+replaced said.Accepted old new = new
+replaced (said.Refused e) old new = old
+
+-- `Files` says what the buffer holds afterwards
+pub record FilesForC (text out out′ numbering numbering′ answer′ : List ℕ) (r : ℕ) : Type 0 where
+  pub filed : Filed
+  pub files : Files text out out′ filed
+  pub nodes : numbering′ ≡ replaced (filed .answer) numbering (filed .numbering)
+  pub answer : answer′ ≡ told (outcome {A = ℕ} (filed .answer) (filed .count ∷ []) [])
+  pub returned : r ≡ getD answer′ 0 0

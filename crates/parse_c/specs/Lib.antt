@@ -1,2 +1,0 @@
--- What C gets of a reading.
-pub mod Sizes
