@@ -1,18 +1,16 @@
-// Mirrors, generators and reflections (crates/lexicon through crates/lexicon_c) beside the Rust's (oracle/rust), measured side by
-// side in one run: a Markdown row for each text and call. Both sides' doubles are compared, bit for bit, before the times are.
-#define _POSIX_C_SOURCE 200809L // clock_gettime
-#include <stdint.h>
-#include <stdio.h>
+// Mirrors, generators and reflections beside the unchanged Rust's (oracle/rust). Both sides read the text and copy every double out.
 #include <string.h>
 
+#include "bench.h"
+#include "lexicon.h"
 #include "timing.h"
 
-typedef size_t geometry(const uint8_t *text, size_t len, double *out, size_t room);
+enum { ROOM = LEXICON_REFLECTIONS };
 
-geometry lexicon_mirrors, lexicon_generator, lexicon_reflections;
-geometry rust_mirrors, rust_generator, rust_reflections;
+typedef size_t our_call(const uint8_t *text, size_t len, double *out, size_t out_len, size_t *answer);
+typedef size_t rust_call(const uint8_t *text, size_t len, double *out, size_t room); // the count of nodes, or 0
 
-enum { LIMIT = 9, ROOM = LIMIT * LIMIT * LIMIT };
+rust_call rust_mirrors, rust_generator, rust_reflections;
 
 static double ours[ROOM], rusts[ROOM];
 static volatile double kept; // so that no call is dropped
@@ -34,7 +32,7 @@ static int same_mirrors(size_t n)
 
 static int same_generator(size_t n)
 {
-    return !memcmp(ours, rusts, n * sizeof *ours) && !memcmp(ours + LIMIT, rusts + LIMIT, sizeof *ours);
+    return !memcmp(ours, rusts, n * sizeof *ours) && !memcmp(ours + 9, rusts + 9, sizeof *ours);
 }
 
 static int same_reflections(size_t n)
@@ -44,7 +42,8 @@ static int same_reflections(size_t n)
 
 static const struct call {
     const char *name;
-    geometry *our, *rust;
+    our_call *our;
+    rust_call *rust;
     int (*same)(size_t n);
 } calls[] = {
     {"mirrors", lexicon_mirrors, rust_mirrors, same_mirrors},
@@ -52,55 +51,41 @@ static const struct call {
     {"reflections", lexicon_reflections, rust_reflections, same_reflections},
 };
 
-// The seconds of so many turns.
-static double seconds(geometry *f, const char *text, double *out, uint64_t turns)
+struct work {
+    const struct call *call;
+    const char *text;
+};
+
+static void run_ours(const void *input, uint64_t turns)
 {
-    size_t len = strlen(text), sum = 0;
-    double start = now();
+    const struct work *w = input;
+    size_t len = strlen(w->text), answer[LEXICON_ANSWER], sum = 0;
     for (uint64_t n = 0; n < turns; n++)
-        sum += f((const uint8_t *)text, len, out, ROOM);
-    kept = out[0] + (double)sum;
-    return now() - start;
+        sum += w->call->our((const uint8_t *)w->text, len, ours, ROOM, answer);
+    kept = ours[0] + (double)sum;
 }
 
-// As many turns as take about 0.1 s.
-static uint64_t turns_of(geometry *f, const char *text, double *out)
+static void run_rust(const void *input, uint64_t turns)
 {
-    uint64_t turns = 1;
-    double took;
-    while ((took = seconds(f, text, out, turns)) < 0.02)
-        turns *= 2;
-    return (uint64_t)((double)turns * 0.1 / took) + 1;
+    const struct work *w = input;
+    size_t len = strlen(w->text), sum = 0;
+    for (uint64_t n = 0; n < turns; n++)
+        sum += w->call->rust((const uint8_t *)w->text, len, rusts, ROOM);
+    kept = rusts[0] + (double)sum;
 }
 
 static void check(const struct call *call, const char *text)
 {
-    size_t len = strlen(text);
+    size_t len = strlen(text), answer[LEXICON_ANSWER];
     memset(ours, 0xff, sizeof ours);
     memset(rusts, 0xfe, sizeof rusts);
-    size_t n = call->our((const uint8_t *)text, len, ours, ROOM);
-    if (n == 0 || n != call->rust((const uint8_t *)text, len, rusts, ROOM) || !call->same(n)) {
-        fprintf(stderr, "cox: the %s of %s differ\n", call->name, text);
-        exit(1);
-    }
+    size_t number = call->our((const uint8_t *)text, len, ours, ROOM, answer);
+    size_t n = call->rust((const uint8_t *)text, len, rusts, ROOM);
+    if (number != 0 || n == 0 || n != answer[1] || !call->same(n))
+        fail(call->name, text, "the Rust has others");
 }
 
-// The two take turns, so that what slows the machine for a while slows both. A ratio is the Rust's time by ours.
-static void row(const struct call *call, const char *name, const char *text)
-{
-    uint64_t our_turns = turns_of(call->our, text, ours), rust_turns = turns_of(call->rust, text, rusts);
-    double our_ns[RUNS], rust_ns[RUNS], ratios[RUNS];
-    for (int run = 0; run < RUNS; run++) {
-        our_ns[run] = seconds(call->our, text, ours, our_turns) * 1e9 / (double)our_turns;
-        rust_ns[run] = seconds(call->rust, text, rusts, rust_turns) * 1e9 / (double)rust_turns;
-        ratios[run] = rust_ns[run] / our_ns[run];
-    }
-    double our = median(our_ns), rust = median(rust_ns);
-    median(ratios); // sorts them
-    printf("| %s | %s | %.0f | %.0f | %.2f | %.2f | %.2f |\n", name, call->name, our, rust, rust / our, ratios[0], ratios[RUNS - 1]);
-}
-
-int main(void)
+void cox_rows(void)
 {
     static const char *const texts[][2] = {
         {"A9, `x3o3o3o3o3o3o3o3o`", "x3o3o3o3o3o3o3o3o"},
@@ -108,11 +93,10 @@ int main(void)
         {"D9, `x3o3o3o3o3o3o3o *g3o`", "x3o3o3o3o3o3o3o *g3o"},
         {"E8, `x3o3o3o3o3o3o *e3o`", "x3o3o3o3o3o3o *e3o"},
     };
-    printf("| text | call | proved, ns | the Rust, ns | ratio of medians | least ratio | greatest ratio |\n|---|---|---|---|---|---|---|\n");
-    for (size_t i = 0; i < sizeof texts / sizeof texts[0]; i++)
-        for (size_t k = 0; k < sizeof calls / sizeof calls[0]; k++) {
+    for (size_t i = 0; i < sizeof texts / sizeof *texts; i++)
+        for (size_t k = 0; k < sizeof calls / sizeof *calls; k++) {
+            struct work w = {&calls[k], texts[i][1]};
             check(&calls[k], texts[i][1]);
-            row(&calls[k], texts[i][0], texts[i][1]);
+            put_row(&(struct row){calls[k].name, texts[i][0], {run_ours, &w}, {run_rust, &w}, "the Rust", 1});
         }
-    return 0;
 }

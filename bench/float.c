@@ -1,25 +1,20 @@
-// The float layer (crates/float through crates/float_c) beside plain C, measured side by side: a Markdown row for each
-// function. A time is that of a call in a loop, so both sides hold the loop's and the call's own nanoseconds.
-#define _POSIX_C_SOURCE 199309L // clock_gettime
-#include <stdint.h>
-#include <stdio.h>
+// The root and the cosine (crates/float through crates/float_c) beside plain C. A time is that of a call in a loop, so both
+// sides hold the loop's and the call's own nanoseconds.
 #include <string.h>
 
+#include "bench.h"
 #include "timing.h"
-
-double float_fsqrt(double v);
-double float_fcos(double a);
-double plain_sqrt(double v); // float_plain.c
-double plain_fcos(double a);
 
 enum { INPUTS = 4096 };
 
 typedef double function(double);
 
-struct side {
+function float_fsqrt, float_fcos;
+function plain_sqrt, plain_fcos; // float_plain.c
+
+struct work {
     function *call;
-    uint64_t repeats;
-    double ns[RUNS]; // per call
+    const double *inputs;
 };
 
 static uint64_t state = UINT64_C(88172645463325252);
@@ -34,46 +29,25 @@ static uint64_t rnd(void)
     return state;
 }
 
-// The seconds of so many turns over the inputs.
-static double seconds(function *call, const double *inputs, uint64_t repeats)
+static void run(const void *input, uint64_t turns)
 {
-    double sum = 0.0, start = now();
-    for (uint64_t r = 0; r < repeats; r++)
+    const struct work *w = input;
+    double sum = 0.0;
+    for (uint64_t n = 0; n < turns; n++)
         for (int i = 0; i < INPUTS; i++)
-            sum += call(inputs[i]);
+            sum += w->call(w->inputs[i]);
     kept = sum;
-    return now() - start;
 }
 
-// As many turns as take about 0.1 s, by a trial that is long enough to go by.
-static void set_repeats(struct side *s, const double *inputs)
+static void put(const char *name, const char *text, function *proved, function *plain, const double *inputs)
 {
-    double took = 0.0;
-    for (s->repeats = 1; (took = seconds(s->call, inputs, s->repeats)) < 0.02;)
-        s->repeats *= 2;
-    s->repeats = (uint64_t)((double)s->repeats * 0.1 / took) + 1;
-}
-
-static void measure(struct side *s, const double *inputs, int run)
-{
-    s->ns[run] = seconds(s->call, inputs, s->repeats) * 1e9 / ((double)s->repeats * INPUTS);
-}
-
-// The sides take turns, so that what slows the machine for a while slows both.
-static void row(const char *name, function *proved, function *plain, const double *inputs)
-{
-    struct side a = {.call = proved}, b = {.call = plain};
-    double ratios[RUNS];
-    set_repeats(&a, inputs);
-    set_repeats(&b, inputs);
-    for (int run = 0; run < RUNS; run++) {
-        measure(&a, inputs, run);
-        measure(&b, inputs, run);
-        ratios[run] = a.ns[run] / b.ns[run];
+    struct work ours = {proved, inputs}, other = {plain, inputs};
+    for (int i = 0; i < INPUTS; i++) {
+        double a = proved(inputs[i]), b = plain(inputs[i]);
+        if (memcmp(&a, &b, sizeof a))
+            fail(name, text, "the plain C has another");
     }
-    double ours = median(a.ns), theirs = median(b.ns);
-    median(ratios); // sorts them
-    printf("| %s | %.2f | %.2f | %.2f | %.2f | %.2f |\n", name, ours, theirs, ours / theirs, ratios[0], ratios[RUNS - 1]);
+    put_row(&(struct row){name, text, {run, &ours}, {run, &other}, "plain C", INPUTS});
 }
 
 // Random fractions, at exponents from -16 to 15: the squared lengths that diagrams lead to, and beyond.
@@ -94,14 +68,11 @@ static void fill_angles(double *inputs)
     }
 }
 
-int main(void)
+void float_rows(void)
 {
-    double inputs[INPUTS];
-    printf("| function | proved, ns per call | plain C, ns per call | ratio of medians | least ratio | greatest ratio |\n");
-    printf("|---|---|---|---|---|---|\n");
+    static double inputs[INPUTS];
     fill_squares(inputs);
-    row("fsqrt", float_fsqrt, plain_sqrt, inputs);
+    put("`fsqrt`", "4,096 doubles by chance", float_fsqrt, plain_sqrt, inputs);
     fill_angles(inputs);
-    row("fcos", float_fcos, plain_fcos, inputs);
-    return 0;
+    put("`fcos`", "4,096 angles by chance", float_fcos, plain_fcos, inputs);
 }

@@ -1,25 +1,28 @@
-// What the benchmarks share: the clock, and the median of the runs.
-#include <stdlib.h>
-#include <time.h>
+// What the parts of the table share: a row of two sides, and the end where their answers differ.
+#ifndef TIMING_H
+#define TIMING_H
 
-enum { RUNS = 5 };
+#include <stdint.h>
 
-static double now(void)
-{
-    struct timespec t;
-    clock_gettime(CLOCK_MONOTONIC, &t);
-    return (double)t.tv_sec + (double)t.tv_nsec * 1e-9;
-}
+// One side of a row: does its work so many times over.
+struct side {
+    void (*run)(const void *input, uint64_t turns);
+    const void *input;
+};
 
-static int by_size(const void *a, const void *b)
-{
-    double x = *(const double *)a, y = *(const double *)b;
-    return (x > y) - (x < y);
-}
+struct row {
+    const char *what, *text;
+    struct side ours, other;
+    const char *other_is;
+    double calls; // in a turn
+};
 
-// Sorts the values.
-static double median(double *values)
-{
-    qsort(values, RUNS, sizeof *values, by_size);
-    return values[RUNS / 2];
-}
+void put_head(void);
+
+// Measures both sides and writes the row.
+void put_row(const struct row *row);
+
+// Ends the program with an error.
+_Noreturn void fail(const char *what, const char *text, const char *why);
+
+#endif

@@ -4,7 +4,7 @@
  * answer, or the refusal's number, keeps nothing, and may be called from any thread.
  *
  * What a caller must ensure, and nothing more: a pointer has as many readable, or for a buffer writable, elements behind it as the length beside it
- * says, and may be null if that is 0; `answer` has four writable elements behind it, `numbering` nine; and no buffer overlaps another or the input.
+ * says, and may be null if that is 0; `answer` has four writable elements behind it, `numbering` nine; and none of what the pointers point at overlaps.
  *
  * answer[0] is what the call returns. After an answer the rest is what the call tells of it, then zeros; after a refusal the rest is its fields, in the
  * order below, then zeros. A refusal changes no element of a buffer, nor of `numbering`. After an answer a buffer keeps its elements past those written.
@@ -47,7 +47,7 @@ enum {
     LEXICON_DIAGRAM = 153,     /* numbers of a diagram */
     LEXICON_SQUARE = 81,       /* doubles of a matrix or of mirrors */
     LEXICON_GENERATOR = 10,    /* doubles of a generator */
-    LEXICON_REFLECTIONS = 729, /* doubles of reflections */
+    LEXICON_REFLECTIONS = 729 /* doubles of reflections */
 };
 
 /* The diagram of a text. Tells the nodes, the stored edges, and 1 if the diagram is minimal, else 0.
@@ -59,10 +59,11 @@ enum {
 size_t lexicon_read(const uint8_t *text, size_t text_len, uint64_t *out, size_t out_len, size_t *answer);
 
 /* The record of a text's diagram, 370 bytes. Tells the nodes. numbering[i] is the node that the record has in place i; past the last node it holds i.
- * Refuses with 1 to 11 and 12. */
+ * Refuses with 1 to 11 and 12. It tries every numbering: six nodes take about 0.1 ms, nine 0.1 s, here and in lexicon_read_record. */
 size_t lexicon_write_record(const uint8_t *text, size_t text_len, uint8_t *out, size_t out_len, size_t *numbering, size_t *answer);
 
-/* The diagram that has these bytes for its record, in the record's own numbering, laid out as for lexicon_read. Tells the nodes and the edges.
+/* The diagram that has these bytes for its record, in the record's own numbering, laid out as for lexicon_read; the edges i < j rank by rising j, then by
+ * rising i. Tells the nodes and the edges.
  * Refuses with 13, 14 and 12. */
 size_t lexicon_read_record(const uint8_t *bytes, size_t bytes_len, uint64_t *out, size_t out_len, size_t *answer);
 
@@ -74,11 +75,13 @@ size_t lexicon_matrix(const uint8_t *text, size_t text_len, double *out, size_t 
  * Refuses with 1 to 11, 15 and 12. */
 size_t lexicon_mirrors(const uint8_t *text, size_t text_len, double *out, size_t out_len, size_t *answer);
 
-/* The generator of a text's diagram: nine coordinates, zeros past the last node, and in out[9] its circumradius. Tells the nodes.
+/* The generator of a text's diagram: nine coordinates, zeros past the last node, and in out[9] its circumradius. Tells the nodes. As in miratope-core it
+ * depends on the order of the nodes: the radii of x3o4o and o4o3x, which are one figure, are 1 and the root of 5.
  * Refuses with 1 to 11, 15, 16 and 12. */
 size_t lexicon_generator(const uint8_t *text, size_t text_len, double *out, size_t out_len, size_t *answer);
 
-/* The reflections in the mirrors of a text's diagram: row r of column c of the reflection in mirror m at out[81 * m + 9 * c + r]. Tells the nodes.
+/* The reflections in the mirrors of a text's diagram: row r of column c of the reflection in mirror m at out[81 * m + 9 * c + r]; past the last node a
+ * reflection goes on as the unit matrix, and past the last mirror there are zeros. Tells the nodes.
  * Refuses with 1 to 11, 15 and 12. */
 size_t lexicon_reflections(const uint8_t *text, size_t text_len, double *out, size_t out_len, size_t *answer);
 

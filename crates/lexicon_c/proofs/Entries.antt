@@ -21,9 +21,9 @@ use Rattle.parse.specs.Reading.{Reading, Accepted, Refused}
 use Rattle.reflections.specs.Reflections.{reflection}
 use Rattle.reflections.specs.Shown.{reflectionsOf}
 use Rattle.reflections.specs.declared.Matrix.{Matrix}
-use Rattle.lexicon_c.specs.Shown.{entries}
-use Rattle.lexicon_c.specs.Shown as shown
-use Rattle.lexicon_c.proofs.Copying.{flat-append}
+use Rattle.lent.specs.Shown.{entries}
+use Rattle.lent.specs.Shown as shown
+use Rattle.lent.proofs.Copying.{flat-append}
 
 entries-long : (w : ℕ) (g : ℕ → Matrix) → ((i : ℕ) → length (g i .at) ≡ w) → (n : ℕ) → length (entries (flat n g)) ≡ w * n
 unfolding flat blocks shown.flat

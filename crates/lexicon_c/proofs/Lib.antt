@@ -1,5 +1,3 @@
--- Laws of what is stored in lent slices, and of what the calls show.
-pub mod Copying
-mod Showing
+-- Why values have bits, and how many entries reflections have.
 mod Valued
 mod Entries

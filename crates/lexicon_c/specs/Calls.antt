@@ -11,8 +11,8 @@ use Rattle.lexicon.specs.declared.Reading.{Reading}
 use Rattle.parse.specs.declared.Answer.{Answer}
 use Rattle.parse.specs.declared.Answer.the-variants as said
 use Rattle.parse.specs.declared.Read.{Read}
-use Rattle.lexicon_c.specs.Outcomes.{Lends, told}
-use Rattle.lexicon_c.specs.Shown.{outcome, ofReading, ofRecord}
+use Rattle.lent.specs.Outcomes.{Lends, told}
+use Rattle.lent.specs.Shown.{outcome, ofReading, ofRecord}
 
 pub record ReadsForC (text out out′ answer′ : List ℕ) (r : ℕ) : Type 0 where
   pub reading : Reading

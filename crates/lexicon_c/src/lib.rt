@@ -1,224 +1,13 @@
 // The public calls for C: include/lexicon.h says what a caller must ensure. Each returns its answer's first number, 0 or the refusal's.
-use cd::Cd;
-use cd::CdError;
 use cd::LIMIT;
-use cd::PAIRS;
-use cd::Pair;
-use cd::Place;
-use cd::SQUARE;
-use lexicon::geometry::Generated;
-use lexicon::geometry::Reflected;
-use lexicon::geometry::Square;
+use lent::ANSWER;
 use parse::Answer;
-use parse::Read;
-use reflections::Matrix;
-ghost use mathlib.Core.List.{List, _∷_};
-ghost use mathlib.Core.Path.{_≡_};
-ghost use Prim.Native.Nat.{ℕ, _+_, _*_, _≤_};
-ghost use lib.ListN.{length, getD};
-ghost use lib.Seq.{sets};
-ghost use Rattle.cd.specs.Arrays.{padded};
-ghost use Rattle.cd.specs.Diagrams.{limit, pairLimit};
-ghost use Rattle.cd.specs.Refusals.{numberOf};
+ghost use Rattle.lent.specs.Outcomes.{Lends};
+ghost use Rattle.lent.specs.Shown.{ofSquare, ofGenerated, ofReflected};
 ghost use Rattle.lexicon.specs.Points.{generatorOfText, reflectionsOfText};
 ghost use Rattle.lexicon.specs.Squares.{matrixOf, mirrorsOf, familyMatrixOf, familyMirrorsOf};
 ghost use Rattle.parse.specs.Reading.{read};
-ghost use Rattle.parse.specs.declared.Answer.the-variants as said;
-ghost use Rattle.tables.specs.Tables.{IsNumber, Numbers};
 ghost use Rattle.lexicon_c.specs.Calls.{ReadsForC, FilesForC, ReadsRecordForC};
-ghost use Rattle.lexicon_c.specs.Outcomes.{Lends};
-ghost use Rattle.lexicon_c.specs.Shown.{outcome, flat, nodeNumbers, pairNumbers, numbersOf, entries, ofSquare, ofGenerated, ofReflected};
-
-// How many numbers an answer and a diagram have; how many doubles a generator and reflections.
-const ANSWER: usize = 4;
-
-const DIAGRAM: usize = 153;
-
-const GENERATOR: usize = 10;
-
-const REFLECTIONS: usize = 729;
-
-// ---- what a call tells
-
-fn tell(f: [usize; ANSWER], answer: &mut [usize; ANSWER]) -> usize
-    ensures { λ r. ⌜ (now (answer .exit) ≡ f) × (r ≡ getD (now (answer .exit)) 0 0) ⌝ }
-{
-    *answer = f;
-    f[0]
-}
-
-// The refusal's number and fields.
-fn refuse(e: CdError, answer: &mut [usize; ANSWER]) -> usize
-    ensures { λ r. ⌜ (now (answer .exit) ≡ padded 0 4 (numberOf e)) × (r ≡ getD (now (answer .exit)) 0 0) ⌝ }
-{
-    let f = cd::figures(e);
-    let at = f.at;
-    tell(at, answer)
-}
-
-// ---- what a call shows
-
-fn put(out: &mut [f64], at: usize, from: &[f64])
-    requires { ⌜ at + length (now from) ≤ length (now out) ⌝ }
-    ensures { λ _. ⌜ now (out .exit) ≡ sets (now (out .entry)) at (now (from .entry)) ⌝ }
-{
-    let mut i = 0;
-    while i < from.len() {
-        out[at + i] = from[i];
-        i += 1;
-    }
-}
-
-fn put_matrix(out: &mut [f64], at: usize, m: Matrix)
-    requires { ⌜ at + 81 ≤ length (now out) ⌝ }
-    ensures { λ _. ⌜ (length (m .at) ≡ 81) × (now (out .exit) ≡ sets (now (out .entry)) at (m .at)) ⌝ }
-{
-    let entries = m.at;
-    put(out, at, &entries[..]);
-}
-
-// Nine matrices, end to end.
-fn put_matrices(out: &mut [f64], of: [Matrix; LIMIT])
-    requires { ⌜ 729 ≤ length (now out) ⌝ }
-    ensures { λ _. ⌜ now (out .exit) ≡ sets (now (out .entry)) 0 (entries of) ⌝ }
-{
-    let mut i = 0;
-    while i < LIMIT {
-        put_matrix(out, SQUARE * i, of[i]);
-        i += 1;
-    }
-}
-
-fn put_node(out: &mut [u64], at: usize, p: Place)
-    requires { ⌜ (at + 2 ≤ length (now out)) × IsNumber (p .node) ⌝ }
-    ensures { λ _. ⌜ now (out .exit) ≡ sets (now (out .entry)) at (nodeNumbers p) ⌝ }
-{
-    let n = p.node;
-    out[at] = tables::kind(n) as u64;
-    out[at + 1] = tables::bits(n);
-}
-
-fn put_nodes(out: &mut [u64], nodes: [Place; LIMIT])
-    requires { ⌜ (2 * limit ≤ length (now out)) × Numbers nodes ⌝ }
-    ensures { λ _. ⌜ now (out .exit) ≡ sets (now (out .entry)) 0 (flat nodeNumbers nodes) ⌝ }
-{
-    let mut i = 0;
-    while i < LIMIT {
-        put_node(out, 2 * i, nodes[i]);
-        i += 1;
-    }
-}
-
-fn put_pair(out: &mut [u64], at: usize, p: Pair)
-    requires { ⌜ at + 3 ≤ length (now out) ⌝ }
-    ensures { λ _. ⌜ now (out .exit) ≡ sets (now (out .entry)) at (pairNumbers p) ⌝ }
-{
-    let e = p.edge;
-    out[at] = p.rank as u64;
-    out[at + 1] = e.num as u64;
-    out[at + 2] = e.den as u64;
-}
-
-fn put_pairs(out: &mut [u64], pairs: [Pair; PAIRS])
-    requires { ⌜ 2 * limit + 3 * pairLimit ≤ length (now out) ⌝ }
-    ensures { λ _. ⌜ now (out .exit) ≡ sets (now (out .entry)) (2 * limit) (flat pairNumbers pairs) ⌝ }
-{
-    let mut i = 0;
-    while i < PAIRS {
-        put_pair(out, 2 * LIMIT + 3 * i, pairs[i]);
-        i += 1;
-    }
-}
-
-fn put_diagram(out: &mut [u64], cd: Cd)
-    requires { ⌜ (2 * limit + 3 * pairLimit ≤ length (now out)) × Numbers (cd .nodes) ⌝ }
-    ensures { λ _. ⌜ now (out .exit) ≡ sets (now (out .entry)) 0 (numbersOf cd) ⌝ }
-{
-    let nodes = cd.nodes;
-    let pairs = cd.pairs;
-    put_nodes(out, nodes);
-    put_pairs(out, pairs);
-}
-
-// ---- what a call tells and shows, or what refuses it
-
-// A matrix or mirrors.
-fn show_square(s: Square, out: &mut [f64], answer: &mut [usize; ANSWER]) -> usize
-    ensures { λ r. ⌜ Lends (ofSquare s) (now (out .entry)) (now (out .exit)) (now (answer .exit)) r ⌝ }
-{
-    let a = s.answer;
-    match a {
-        Answer::Accepted => {
-            if out.len() < SQUARE {
-                return refuse(CdError::ShortBuffer, answer);
-            }
-            let at = s.at;
-            put(out, 0, &at[..]);
-            tell([0, s.count, 0, 0], answer)
-        }
-        Answer::Refused(e) => refuse(e, answer),
-    }
-}
-
-// A generator's coordinates, then its circumradius.
-fn show_generated(s: Generated, out: &mut [f64], answer: &mut [usize; ANSWER]) -> usize
-    ensures { λ r. ⌜ Lends (ofGenerated s) (now (out .entry)) (now (out .exit)) (now (answer .exit)) r ⌝ }
-{
-    let a = s.answer;
-    match a {
-        Answer::Accepted => {
-            if out.len() < GENERATOR {
-                return refuse(CdError::ShortBuffer, answer);
-            }
-            let g = s.generator;
-            let at = g.at;
-            put(out, 0, &at[..]);
-            out[LIMIT] = g.radius;
-            tell([0, g.count, 0, 0], answer)
-        }
-        Answer::Refused(e) => refuse(e, answer),
-    }
-}
-
-fn show_reflected(s: Reflected, out: &mut [f64], answer: &mut [usize; ANSWER]) -> usize
-    requires { ⌜ length (entries (s .reflections .of)) ≡ 729 ⌝ }
-    ensures { λ r. ⌜ Lends (ofReflected s) (now (out .entry)) (now (out .exit)) (now (answer .exit)) r ⌝ }
-{
-    let a = s.answer;
-    match a {
-        Answer::Accepted => {
-            if out.len() < REFLECTIONS {
-                return refuse(CdError::ShortBuffer, answer);
-            }
-            let g = s.reflections;
-            let of = g.of;
-            put_matrices(out, of);
-            tell([0, g.count, 0, 0], answer)
-        }
-        Answer::Refused(e) => refuse(e, answer),
-    }
-}
-
-// A diagram, of which f is told.
-fn show_diagram(r: Read, f: [usize; ANSWER], out: &mut [u64], answer: &mut [usize; ANSWER]) -> usize
-    requires { ⌜ (r .answer ≡ said.Accepted → Numbers (r .cd .nodes)) ⌝ }
-    ensures { λ n. ⌜ ((fs : List ℕ) → f ≡ padded 0 4 (0 ∷ fs) → Lends (outcome (r .answer) fs (numbersOf (r .cd))) (now (out .entry)) (now (out .exit)) (now (answer .exit)) n) ⌝ }
-{
-    let a = r.answer;
-    match a {
-        Answer::Accepted => {
-            if out.len() < DIAGRAM {
-                return refuse(CdError::ShortBuffer, answer);
-            }
-            let cd = r.cd;
-            put_diagram(out, cd);
-            tell(f, answer)
-        }
-        Answer::Refused(e) => refuse(e, answer),
-    }
-}
-
-// ---- the calls
 
 #[no_mangle]
 pub extern "C" fn lexicon_read(text: &[u8], out: &mut [u64], answer: &mut [usize; ANSWER]) -> usize
@@ -227,7 +16,7 @@ pub extern "C" fn lexicon_read(text: &[u8], out: &mut [u64], answer: &mut [usize
     let x = lexicon::read(text);
     let r = x.read;
     let cd = r.cd;
-    show_diagram(r, [0, cd.count, cd.edges, x.minimal as usize], out, answer)
+    lent::show_diagram(r, [0, cd.count, cd.edges, x.minimal as usize], out, answer)
 }
 
 #[no_mangle]
@@ -245,9 +34,9 @@ pub extern "C" fn lexicon_write_record(
         Answer::Accepted => {
             let of = f.numbering;
             *numbering = of;
-            tell([0, f.count, 0, 0], answer)
+            lent::tell([0, f.count, 0, 0], answer)
         }
-        Answer::Refused(e) => refuse(e, answer),
+        Answer::Refused(e) => lent::refuse(e, answer),
     }
 }
 
@@ -261,7 +50,7 @@ pub extern "C" fn lexicon_read_record(
 {
     let r = lexicon::read_record(bytes);
     let cd = r.cd;
-    show_diagram(r, [0, cd.count, cd.edges, 0], out, answer)
+    lent::show_diagram(r, [0, cd.count, cd.edges, 0], out, answer)
 }
 
 #[no_mangle]
@@ -272,7 +61,7 @@ pub extern "C" fn lexicon_matrix(
 ) -> usize
     ensures { λ r. ⌜ Lends (ofSquare (matrixOf (read (now (text .entry))))) (now (out .entry)) (now (out .exit)) (now (answer .exit)) r ⌝ }
 {
-    show_square(lexicon::geometry::matrix(text), out, answer)
+    lent::show_square(lexicon::geometry::matrix(text), out, answer)
 }
 
 #[no_mangle]
@@ -283,7 +72,7 @@ pub extern "C" fn lexicon_mirrors(
 ) -> usize
     ensures { λ r. ⌜ Lends (ofSquare (mirrorsOf (read (now (text .entry))))) (now (out .entry)) (now (out .exit)) (now (answer .exit)) r ⌝ }
 {
-    show_square(lexicon::geometry::mirrors(text), out, answer)
+    lent::show_square(lexicon::geometry::mirrors(text), out, answer)
 }
 
 #[no_mangle]
@@ -294,7 +83,7 @@ pub extern "C" fn lexicon_generator(
 ) -> usize
     ensures { λ r. ⌜ Lends (ofGenerated (generatorOfText (read (now (text .entry))))) (now (out .entry)) (now (out .exit)) (now (answer .exit)) r ⌝ }
 {
-    show_generated(lexicon::geometry::generator(text), out, answer)
+    lent::show_generated(lexicon::geometry::generator(text), out, answer)
 }
 
 #[no_mangle]
@@ -305,7 +94,7 @@ pub extern "C" fn lexicon_reflections(
 ) -> usize
     ensures { λ r. ⌜ Lends (ofReflected (reflectionsOfText (read (now (text .entry))))) (now (out .entry)) (now (out .exit)) (now (answer .exit)) r ⌝ }
 {
-    show_reflected(lexicon::geometry::reflections(text), out, answer)
+    lent::show_reflected(lexicon::geometry::reflections(text), out, answer)
 }
 
 #[no_mangle]
@@ -317,7 +106,7 @@ pub extern "C" fn lexicon_family_matrix(
 ) -> usize
     ensures { λ r. ⌜ Lends (ofSquare (familyMatrixOf letter size)) (now (out .entry)) (now (out .exit)) (now (answer .exit)) r ⌝ }
 {
-    show_square(lexicon::geometry::family_matrix(letter, size), out, answer)
+    lent::show_square(lexicon::geometry::family_matrix(letter, size), out, answer)
 }
 
 #[no_mangle]
@@ -329,5 +118,5 @@ pub extern "C" fn lexicon_family_mirrors(
 ) -> usize
     ensures { λ r. ⌜ Lends (ofSquare (familyMirrorsOf letter size)) (now (out .entry)) (now (out .exit)) (now (answer .exit)) r ⌝ }
 {
-    show_square(lexicon::geometry::family_mirrors(letter, size), out, answer)
+    lent::show_square(lexicon::geometry::family_mirrors(letter, size), out, answer)
 }

@@ -5,7 +5,7 @@ include!(concat!(env!("OUT_DIR"), "/miratope.rs"));
 
 pub mod lines;
 
-use cox::cd::{Cd, CdError};
+use cox::cd::{Cd, CdError, Node};
 
 /// The type names of geometry.rs. The file itself leans on the rest of miratope-core.
 pub mod geometry {
@@ -49,6 +49,19 @@ impl CdError {
             Self::RepeatEdge { .. } => 8,
         }
     }
+
+    /// Its number and fields, then zeros: the answer of include/lexicon.h.
+    pub fn answer(self) -> [usize; 4] {
+        let number = self.number() as usize;
+        match self {
+            Self::MismatchedParenthesis { pos }
+            | Self::UnexpectedEnding { pos }
+            | Self::ParseError { pos }
+            | Self::InvalidSymbol { pos } => [number, pos, 0, 0],
+            Self::InvalidEdge { num, den, pos } => [number, num as usize, den as usize, pos],
+            Self::RepeatEdge { a, b } => [number, a, b, 0],
+        }
+    }
 }
 
 /// Reads a text for a caller in C: the count of nodes, or 256 and the refusal's number.
@@ -63,6 +76,26 @@ pub unsafe extern "C" fn rust_parse(text: *const u8, len: usize) -> u32 {
         Ok(cd) => cd.node_count() as u32,
         Err(e) => 256 + e.number(),
     }
+}
+
+/// Reads a text as include/lexicon.h's `lexicon_read` does: the same numbers in `out` and `answer`, the same one returned.
+///
+/// # Safety
+/// As for `rust_parse`; `out` points at `room` numbers, 153 or more, `answer` at four, and the text has at most nine nodes.
+#[no_mangle]
+pub unsafe extern "C" fn rust_read(text: *const u8, len: usize, out: *mut u64, room: usize, answer: *mut usize) -> usize {
+    let out = std::slice::from_raw_parts_mut(out, room);
+    let answer = std::slice::from_raw_parts_mut(answer, 4);
+    let text = std::slice::from_raw_parts(text, len);
+    let told = match Cd::parse(std::str::from_utf8_unchecked(text)) {
+        Ok(cd) => {
+            put_diagram(&mut out[..153], &cd);
+            [0, cd.node_count(), cd.edge_count(), usize::from(cd.minimal())]
+        }
+        Err(e) => e.answer(),
+    };
+    answer.copy_from_slice(&told);
+    told[0]
 }
 
 /// The mirrors of a text (`Cd::cox`, `Cox::normals`) for a caller in C: the count of nodes, 0 where there are none. Row r of
@@ -117,6 +150,27 @@ pub unsafe extern "C" fn rust_reflections(text: *const u8, len: usize, out: *mut
 
 unsafe fn diagram(text: *const u8, len: usize) -> Option<Cd> {
     Cd::parse(std::str::from_utf8_unchecked(std::slice::from_raw_parts(text, len))).ok()
+}
+
+fn put_diagram(out: &mut [u64], cd: &Cd) {
+    let (nodes, pairs) = out.split_at_mut(18);
+    for place in nodes.chunks_exact_mut(2) {
+        place.copy_from_slice(&[1, 0]);
+    }
+    for (node, place) in cd.node_iter().zip(nodes.chunks_exact_mut(2)) {
+        place.copy_from_slice(&match node {
+            Node::Unringed => [1, 0],
+            Node::Ringed(value) => [2, value.to_bits()],
+            Node::Snub(value) => [3, value.to_bits()],
+        });
+    }
+    pairs.fill(0);
+    for (rank, edge) in cd.raw_edges().iter().enumerate() {
+        let (a, b) = (edge.source().index(), edge.target().index());
+        let (i, j) = (a.min(b), a.max(b));
+        let at = 3 * (j * (j + 1) / 2 + i);
+        pairs[at..at + 3].copy_from_slice(&[rank as u64 + 1, edge.weight.num.into(), edge.weight.den.into()]);
+    }
 }
 
 fn put_matrix(out: &mut [f64], dim: usize, matrix: &geometry::Matrix<f64>) {

@@ -1,7 +1,7 @@
 -- `lexicon_c::lexicon_family_mirrors` meets its contract. Assumes nothing.
 use borrow.Author.Needs.{needs}
-use Rattle.lexicon_c.specs.Shown.{ofSquare}
-use Rattle.lexicon_c.proofs.Showing.{lends-same}
+use Rattle.lent.specs.Shown.{ofSquare}
+use Rattle.lent.proofs.Showing.{lends-same}
 use Rattle.lexicon_c.proofs.lexicon_family_mirrors.Statement.{statement}
 use Rattle.lexicon_c.proofs.lexicon_family_mirrors.Tie as tie
 

@@ -1,7 +1,7 @@
 -- `lexicon_c::lexicon_generator` meets its contract. Assumes nothing.
 use borrow.Author.Needs.{needs}
-use Rattle.lexicon_c.specs.Shown.{ofGenerated}
-use Rattle.lexicon_c.proofs.Showing.{lends-same}
+use Rattle.lent.specs.Shown.{ofGenerated}
+use Rattle.lent.proofs.Showing.{lends-same}
 use Rattle.lexicon_c.proofs.lexicon_generator.Statement.{statement}
 use Rattle.lexicon_c.proofs.lexicon_generator.Tie as tie
 

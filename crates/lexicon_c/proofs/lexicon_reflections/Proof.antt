@@ -2,9 +2,9 @@
 use mathlib.Core.Path.{ap, _∙_}
 use lib.ListN.{length}
 use borrow.Author.Needs.{needs}
-use Rattle.lexicon_c.specs.Shown.{entries, ofReflected}
+use Rattle.lent.specs.Shown.{entries, ofReflected}
 use Rattle.lexicon_c.proofs.Entries.{reflections-long}
-use Rattle.lexicon_c.proofs.Showing.{lends-same}
+use Rattle.lent.proofs.Showing.{lends-same}
 use Rattle.lexicon_c.proofs.lexicon_reflections.Statement.{statement}
 use Rattle.lexicon_c.proofs.lexicon_reflections.Tie as tie
 

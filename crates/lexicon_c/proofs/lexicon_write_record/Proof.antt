@@ -3,8 +3,8 @@ use mathlib.Core.Path.{refl, ap, _∙_}
 use borrow.Author.Needs.{needs}
 use Rattle.cd.specs.Arrays.{padded}
 use Rattle.lexicon_c.specs.Calls.{replaced}
-use Rattle.lexicon_c.specs.Outcomes.{told}
-use Rattle.lexicon_c.specs.Shown.{outcome}
+use Rattle.lent.specs.Outcomes.{told}
+use Rattle.lent.specs.Shown.{outcome}
 use Rattle.lexicon_c.proofs.lexicon_write_record.Statement.{statement}
 use Rattle.lexicon_c.proofs.lexicon_write_record.Tie as tie
 

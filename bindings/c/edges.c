@@ -1,0 +1,435 @@
+// The calls of include/lexicon.h on bad input and at the limits of what they take.
+// Usage: edges. Exit status: 0 all is as the header says, 1 something is not, after a line that says what.
+#include <stdbool.h>
+#include <stdint.h>
+#include <stdio.h>
+#include <stdlib.h>
+#include <string.h>
+
+#include "lexicon.h"
+
+#define LEN(array) (sizeof(array) / sizeof(array)[0])
+#define ANSWER(...) ((const size_t[LEXICON_ANSWER]){__VA_ARGS__}) // with zeros behind the numbers given
+
+enum {
+    MOST_BYTES = 255, // of a text
+    SPARE = 3,        // elements behind those that a call may write, which it must keep
+    ROOM = (LEXICON_REFLECTIONS + SPARE) * sizeof(double),
+};
+
+// A text, a record or a family: each call takes what it needs.
+struct input {
+    const void *bytes;
+    size_t len;
+    uint8_t letter;
+    size_t size;
+};
+
+// A call has one of these forms; lexicon_write_record, which alone has a numbering, has none of them.
+typedef size_t to_numbers(const uint8_t *bytes, size_t len, uint64_t *out, size_t out_len, size_t *answer);
+typedef size_t to_doubles(const uint8_t *bytes, size_t len, double *out, size_t out_len, size_t *answer);
+typedef size_t of_family(uint8_t letter, size_t size, double *out, size_t out_len, size_t *answer);
+
+struct call {
+    const char *name;
+    size_t element; // the bytes of an element of its buffer
+    size_t writes;  // the elements that it writes
+    to_numbers *to_numbers;
+    to_doubles *to_doubles;
+    of_family *of_family;
+};
+
+static const struct call read_text = {"lexicon_read", sizeof(uint64_t), LEXICON_DIAGRAM, .to_numbers = lexicon_read};
+static const struct call write_record = {"lexicon_write_record", sizeof(uint8_t), LEXICON_RECORD, NULL, NULL, NULL};
+static const struct call read_record = {"lexicon_read_record", sizeof(uint64_t), LEXICON_DIAGRAM, .to_numbers = lexicon_read_record};
+static const struct call matrix = {"lexicon_matrix", sizeof(double), LEXICON_SQUARE, .to_doubles = lexicon_matrix};
+static const struct call mirrors = {"lexicon_mirrors", sizeof(double), LEXICON_SQUARE, .to_doubles = lexicon_mirrors};
+static const struct call generator = {"lexicon_generator", sizeof(double), LEXICON_GENERATOR, .to_doubles = lexicon_generator};
+static const struct call reflections = {"lexicon_reflections", sizeof(double), LEXICON_REFLECTIONS, .to_doubles = lexicon_reflections};
+static const struct call family_matrix = {"lexicon_family_matrix", sizeof(double), LEXICON_SQUARE, .of_family = lexicon_family_matrix};
+static const struct call family_mirrors = {"lexicon_family_mirrors", sizeof(double), LEXICON_SQUARE, .of_family = lexicon_family_mirrors};
+
+static const struct call *const of_texts[] = {&read_text, &write_record, &matrix, &mirrors, &generator, &reflections};
+
+// ---- one call, with all that it may and may not change
+
+static void *out, *again; // ROOM bytes each, allocated, so that they serve for elements of every type
+static size_t numbering[LEXICON_LIMIT + SPARE], answer[LEXICON_ANSWER + SPARE];
+static unsigned long checks;
+
+// What is being called, for `run` and for the message.
+static const struct call *now;
+static struct input given;
+static size_t given_out;
+
+static void check(bool holds, const char *what)
+{
+    checks++;
+    if (holds)
+        return;
+    printf("edges: %s of ", now->name);
+    if (now->of_family)
+        printf("family %u, size %zu", (unsigned)given.letter, given.size);
+    else
+        printf("%zu bytes", given.len);
+    printf(", buffer of %zu: %s; answer %zu %zu %zu %zu\n", given_out, what, answer[0], answer[1], answer[2], answer[3]);
+    exit(1);
+}
+
+static size_t run(void *buffer)
+{
+    if (now->to_numbers)
+        return now->to_numbers(given.bytes, given.len, buffer, given_out, answer);
+    if (now->to_doubles)
+        return now->to_doubles(given.bytes, given.len, buffer, given_out, answer);
+    if (now->of_family)
+        return now->of_family(given.letter, given.size, buffer, given_out, answer);
+    return lexicon_write_record(given.bytes, given.len, buffer, given_out, numbering, answer);
+}
+
+// Whether so many bytes all have this value.
+static bool filled(const void *at, uint8_t value, size_t bytes)
+{
+    const uint8_t *byte = at;
+    return bytes == 0 || (byte[0] == value && memcmp(byte, byte + 1, bytes - 1) == 0);
+}
+
+// Whether each of n nodes has one place, and past them place i holds i.
+static bool numbers(const size_t *places, size_t n)
+{
+    bool seen[LEXICON_LIMIT] = {false};
+    for (size_t i = 0; i < LEXICON_LIMIT; i++) {
+        if (i < n ? places[i] >= n || seen[places[i]] : places[i] != i)
+            return false;
+        seen[places[i]] = true;
+    }
+    return true;
+}
+
+// Runs the call over memory that is filled with a byte, and checks the answer and all that is to keep that byte.
+static void run_over(uint8_t fill, void *buffer, bool null, const size_t *wanted)
+{
+    size_t room = (now->writes + SPARE) * now->element;
+    memset(buffer, fill, room);
+    memset(numbering, fill, sizeof numbering);
+    memset(answer, fill, sizeof answer);
+    size_t number = run(null ? NULL : buffer);
+    check(number == wanted[0], "it returns another number");
+    check(memcmp(answer, wanted, LEXICON_ANSWER * sizeof *answer) == 0, "its answer is another");
+    check(filled(answer + LEXICON_ANSWER, fill, SPARE * sizeof *answer), "it writes past its answer");
+
+    size_t written = number == 0 ? now->writes * now->element : 0;
+    check(filled((uint8_t *)buffer + written, fill, room - written), "it changes elements that it should keep");
+    bool numbered = number == 0 && now == &write_record;
+    size_t places = numbered ? LEXICON_LIMIT : 0;
+    check(filled(numbering + places, fill, sizeof numbering - places * sizeof *numbering), "it changes a numbering that it should keep");
+    check(!numbered || numbers(numbering, answer[1]), "its numbering is none");
+}
+
+// Twice, over two fills: if both leave the same, then each element was written.
+static void expect(const struct call *call, struct input in, size_t out_len, const size_t *wanted)
+{
+    now = call;
+    given = in;
+    given_out = out_len;
+    run_over(0xa5, again, false, wanted);
+    run_over(0x5a, out, false, wanted);
+    check(wanted[0] != 0 || memcmp(out, again, now->writes * now->element) == 0, "it leaves an element of its answer unwritten");
+    if (out_len == 0)
+        run_over(0xa5, again, true, wanted);
+}
+
+// An answer, to a buffer that is full and to a longer one. To shorter ones 12.
+static void expect_answer(const struct call *call, struct input in, const size_t *wanted)
+{
+    expect(call, in, 0, ANSWER(12));
+    expect(call, in, 1, ANSWER(12));
+    expect(call, in, call->writes - 1, ANSWER(12));
+    expect(call, in, call->writes, wanted);
+    expect(call, in, call->writes + SPARE, wanted);
+}
+
+// A refusal, with every buffer: 12 comes after all others.
+static void expect_refusal(const struct call *call, struct input in, const size_t *wanted)
+{
+    expect(call, in, 0, wanted);
+    expect(call, in, call->writes - 1, wanted);
+    expect(call, in, call->writes, wanted);
+}
+
+static struct input bytes(const void *at, size_t len)
+{
+    return (struct input){.bytes = at, .len = len};
+}
+
+static struct input text(const char *typed)
+{
+    return bytes(typed, strlen(typed));
+}
+
+static struct input family(unsigned letter, size_t size)
+{
+    return (struct input){.letter = (uint8_t)letter, .size = size};
+}
+
+static void expect_refused_text(struct input in, const size_t *wanted)
+{
+    for (size_t i = 0; i < LEN(of_texts); i++)
+        expect_refusal(of_texts[i], in, wanted);
+}
+
+// An accepted text whose mirrors exist and whose lengths are finite.
+static void expect_accepted_text(struct input in, size_t nodes, size_t edges, bool minimal)
+{
+    expect_answer(&read_text, in, ANSWER(0, nodes, edges, minimal));
+    for (size_t i = 1; i < LEN(of_texts); i++)
+        expect_answer(of_texts[i], in, ANSWER(0, nodes));
+}
+
+// ---- texts
+
+static void accepted_texts(void)
+{
+    expect_accepted_text(text("x3o4o"), 3, 2, true);
+    expect_accepted_text(text("s3s *a4*a"), 2, 2, false);
+    expect_accepted_text(text("*a"), 0, 0, true);
+    expect_accepted_text(text("ooooooooo"), 9, 0, false);
+}
+
+static void refused_texts(void)
+{
+    static const struct {
+        const char *text;
+        size_t answer[LEXICON_ANSWER];
+    } refused[] = {
+        {"x3(1", {3, 4}}, {"(", {3, 1}}, {"x3", {4, 2}}, {"x ", {4, 2}}, {"*", {4, 1}}, {"*-", {4, 2}},
+        {"()", {5, 1}}, {"x3/o", {5, 2}}, {"x4294967296o", {5, 10}}, {"(nan)", {6, 3}}, {"x3_", {6, 2}}, {"x3\to", {6, 2}},
+        {"x1o", {7, 1, 1, 1}}, {"x4294967294/4294967295o", {7, 4294967294, 4294967295, 21}}, {"x3o3*a", {8, 1, 0}}, {"x3*a3*a", {8, 0, 0}},
+        {"(1e23)", {9, 4}}, {"oooooooooo", {10, 9}}, {"ooooooooo(1)", {10, 9}}, {"x3*c", {11, 0}}, {"x2*c3o3*c", {11, 1}},
+    };
+    for (size_t i = 0; i < LEN(refused); i++)
+        expect_refused_text(text(refused[i].text), refused[i].answer);
+}
+
+// What only the geometers' calls refuse. 15 comes before 16.
+static void refused_geometry(void)
+{
+    static const struct call *const need_mirrors[] = {&mirrors, &generator, &reflections};
+    for (size_t i = 0; i < LEN(need_mirrors); i++) {
+        expect_refusal(need_mirrors[i], text("x4o4o"), ANSWER(15, 2));
+        expect_refusal(need_mirrors[i], text("(inf)4o4o"), ANSWER(15, 2));
+    }
+    expect_refusal(&generator, text("(inf)3o"), ANSWER(16, 0));
+    expect_refusal(&generator, text("o3(-Infinity)3(inf)"), ANSWER(16, 1));
+    expect_answer(&matrix, text("x4o4o"), ANSWER(0, 3));
+    expect_answer(&mirrors, text("(inf)3o"), ANSWER(0, 2));
+    expect_answer(&reflections, text("(inf)3o"), ANSWER(0, 2));
+    expect_answer(&read_text, text("(inf)3o"), ANSWER(0, 2, 1, 1));
+    expect_answer(&write_record, text("(inf)3o"), ANSWER(0, 2));
+}
+
+static void lengths(void)
+{
+    static char typed[100000];
+    memset(typed, ' ', sizeof typed);
+    expect_refused_text(bytes(NULL, 0), ANSWER(4, 0));
+    expect_refused_text(bytes(typed, 0), ANSWER(4, 0));
+    expect_refused_text(bytes(typed, MOST_BYTES), ANSWER(4, MOST_BYTES));
+    typed[MOST_BYTES - 1] = 'x';
+    expect_accepted_text(bytes(typed, MOST_BYTES), 1, 0, true);
+    expect_refused_text(bytes(typed, MOST_BYTES + 1), ANSWER(1, 255));
+    expect_refused_text(bytes(typed, sizeof typed), ANSWER(1, 255));
+    memset(typed, 0xff, sizeof typed); // the length is tested before the bytes
+    expect_refused_text(bytes(typed, MOST_BYTES + 1), ANSWER(1, 255));
+}
+
+// Every text of one byte.
+static void single_bytes(void)
+{
+    static const char letters[] = "osvxqfhkuwFeQdVUAXB", spaces[] = "\t\n\v\f\r ";
+    for (unsigned value = 0; value < 256; value++) {
+        uint8_t byte = (uint8_t)value;
+        struct input in = bytes(&byte, 1);
+        if (byte >= 128)
+            expect_refused_text(in, ANSWER(2, 0));
+        else if (byte == '(')
+            expect_refused_text(in, ANSWER(3, 1));
+        else if (byte == '*' || (byte != 0 && strchr(spaces, byte)))
+            expect_refused_text(in, ANSWER(4, 1));
+        else if (byte != 0 && strchr(letters, byte))
+            expect_accepted_text(in, 1, 0, byte != 'o' && byte != 's');
+        else
+            expect_refused_text(in, ANSWER(6, 0));
+    }
+}
+
+// A NUL does not end a text, and fits nothing. A byte of 128 or more is found before all else, and of several the first.
+static void bytes_at_every_position(void)
+{
+    uint8_t typed[MOST_BYTES];
+    for (size_t at = 0; at < sizeof typed; at++) {
+        memset(typed, ' ', sizeof typed);
+        typed[sizeof typed - 1] = 'x';
+        typed[at] = 0;
+        expect_refused_text(bytes(typed, sizeof typed), ANSWER(6, at));
+        memset(typed, 0, at);
+        memset(typed + at, 0xff, sizeof typed - at);
+        for (unsigned value = 128; value < 256; value++) {
+            typed[at] = (uint8_t)value;
+            for (size_t i = 0; i < LEN(of_texts); i++)
+                expect(of_texts[i], bytes(typed, sizeof typed), of_texts[i]->writes, ANSWER(2, at));
+        }
+    }
+}
+
+// ---- records
+
+// Writes the record of a text that is accepted.
+static void record_of(const char *typed, uint8_t *record)
+{
+    now = &write_record;
+    given = text(typed);
+    given_out = LEXICON_RECORD;
+    check(run(record) == 0, "it refuses the text");
+}
+
+static void record_lengths(void)
+{
+    uint8_t zeros[LEXICON_RECORD + 1] = {0}; // the first 370 are the record of no nodes
+    expect_refusal(&read_record, bytes(NULL, 0), ANSWER(13));
+    expect_refusal(&read_record, bytes(zeros, 0), ANSWER(13));
+    expect_refusal(&read_record, bytes(zeros, LEXICON_RECORD - 1), ANSWER(13));
+    expect_refusal(&read_record, bytes(zeros, LEXICON_RECORD + 1), ANSWER(13));
+    expect_answer(&read_record, bytes(zeros, LEXICON_RECORD), ANSWER(0, 0, 0));
+}
+
+static void accepted_records(void)
+{
+    uint8_t record[LEXICON_RECORD];
+    record_of("x3o4o *a5*a", record); // the loop goes
+    expect_answer(&read_record, bytes(record, sizeof record), ANSWER(0, 3, 2));
+    record_of("(-inf)6/2(-0)", record);
+    expect_answer(&read_record, bytes(record, sizeof record), ANSWER(0, 2, 1));
+}
+
+// The record of two nodes, with each byte that is fixed given each other value.
+static void refused_records(void)
+{
+    uint8_t record[LEXICON_RECORD];
+    record_of("x4o", record);
+    for (size_t at = 0; at < sizeof record; at++) {
+        uint8_t kept = record[at];
+        bool fixed = at == 0 || (at >= 2 && at < 10) || (at >= 19 && at < 82) || at >= 90; // count, bits of the unringed node, unused places
+        for (unsigned value = 0; fixed && value < 256; value++) {
+            record[at] = (uint8_t)value;
+            if (value != kept)
+                expect_refusal(&read_record, bytes(record, sizeof record), ANSWER(14));
+        }
+        record[at] = kept;
+    }
+    record[1] = 3; // a snub node of length 0 before the ringed one: laid out well, but not the smallest
+    expect_refusal(&read_record, bytes(record, sizeof record), ANSWER(14));
+    memset(record, 0xff, sizeof record);
+    expect_refusal(&read_record, bytes(record, sizeof record), ANSWER(14));
+}
+
+// ---- families
+
+static size_t least_size(unsigned letter)
+{
+    switch (letter) {
+    case 'A':
+        return 1;
+    case 'B':
+    case 'H':
+        return 2;
+    case 'D':
+        return 3;
+    case 'E':
+        return 4;
+    default:
+        return SIZE_MAX;
+    }
+}
+
+static void one_family(unsigned letter, size_t size)
+{
+    struct input in = family(letter, size);
+    if (size < least_size(letter) || size > LEXICON_LIMIT) {
+        expect_refusal(&family_matrix, in, ANSWER(17));
+        expect_refusal(&family_mirrors, in, ANSWER(17));
+        return;
+    }
+    expect_answer(&family_matrix, in, ANSWER(0, size));
+    if (letter == 'H' && size > 4) // infinite groups
+        expect_refusal(&family_mirrors, in, ANSWER(15, 4));
+    else if (letter == 'E' && size == 9)
+        expect_refusal(&family_mirrors, in, ANSWER(15, 8));
+    else
+        expect_answer(&family_mirrors, in, ANSWER(0, size));
+}
+
+static void families(void)
+{
+    for (unsigned letter = 0; letter < 256; letter++) {
+        for (size_t size = 0; size <= LEXICON_LIMIT + 1; size++)
+            one_family(letter, size);
+        one_family(letter, SIZE_MAX);
+    }
+}
+
+// ---- what stands past the last node
+
+static void run_once(const struct call *call, struct input in)
+{
+    expect(call, in, call->writes, ANSWER(0, 1, 0, call == &read_text));
+}
+
+static void past_one_node(void)
+{
+    const uint64_t *places = out;
+    const double *doubles = out;
+    run_once(&read_text, text("x"));
+    check(places[0] == 2 && places[1] == UINT64_C(0x3ff0000000000000), "its node is another");
+    for (size_t i = 1; i < LEXICON_LIMIT; i++)
+        check(places[2 * i] == 1 && places[2 * i + 1] == 0, "past its node there is another place");
+    check(filled(places + 18, 0, (LEXICON_DIAGRAM - 18) * sizeof *places), "it has an edge");
+
+    run_once(&matrix, text("x"));
+    for (size_t i = 0; i < LEXICON_SQUARE; i++)
+        check(doubles[i] == (i % 10 == 0 ? 1 : 2), "past its node it has another entry");
+    run_once(&mirrors, text("x"));
+    check(doubles[0] == 1 && filled(doubles + 1, 0, (LEXICON_SQUARE - 1) * sizeof *doubles), "past its node it has another mirror");
+    run_once(&generator, text("x"));
+    check(doubles[0] == 1 && filled(doubles + 1, 0, 8 * sizeof *doubles) && doubles[9] == 1, "its generator is another");
+
+    run_once(&family_matrix, family('A', 1));
+    for (size_t i = 0; i < LEXICON_SQUARE; i++) {
+        size_t column = i / 9, row = i % 9;
+        bool joined = column + 1 == row || row + 1 == column;
+        check(doubles[i] == (column == row ? 1 : joined ? 3 : 2), "it does not go on as a longer family");
+    }
+}
+
+int main(void)
+{
+    out = malloc(ROOM);
+    again = malloc(ROOM);
+    if (!out || !again)
+        return 1;
+    accepted_texts();
+    refused_texts();
+    refused_geometry();
+    lengths();
+    single_bytes();
+    bytes_at_every_position();
+    record_lengths();
+    accepted_records();
+    refused_records();
+    families();
+    past_one_node();
+    printf("edges: %lu checks\n", checks);
+    free(out);
+    free(again);
+    return 0;
+}

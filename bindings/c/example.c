@@ -1,0 +1,156 @@
+// Prints what the library tells of each argument, or of a few texts without any, and then which of them are the same figure.
+// Usage: example [TEXT..]
+#include <inttypes.h>
+#include <stdbool.h>
+#include <stdio.h>
+#include <stdlib.h>
+#include <string.h>
+
+#include "lexicon.h"
+
+// A text that was accepted, and its record. The place keeps texts of one figure in the order given.
+struct article {
+    size_t place;
+    const char *text;
+    uint8_t record[LEXICON_RECORD];
+};
+
+static const uint8_t *bytes(const char *text)
+{
+    return (const uint8_t *)text;
+}
+
+// The refusal's number, then its fields.
+static void print_refusal(const char *what, const size_t *answer)
+{
+    static const size_t fields[] = {0, 1, 1, 1, 1, 1, 1, 3, 2, 1, 1, 1, 0, 0, 0, 1, 1, 0}; // how many, by the number
+    printf("  no %s:", what);
+    for (size_t i = 0; i <= fields[answer[0]]; i++)
+        printf(" %zu", answer[i]);
+    printf("\n");
+}
+
+static void print_nodes(const uint64_t *diagram, size_t nodes)
+{
+    printf("  nodes:");
+    for (size_t i = 0; i < nodes; i++) {
+        double length;
+        memcpy(&length, &diagram[2 * i + 1], sizeof length);
+        if (diagram[2 * i] == 1)
+            printf(" o");
+        else
+            printf(" %c(%g)", diagram[2 * i] == 2 ? 'x' : 's', length);
+    }
+    printf("\n");
+}
+
+// In the order stored: the places are by nodes, so the one of each rank is looked for.
+static void print_edges(const uint64_t *diagram, size_t nodes, size_t edges)
+{
+    printf("  edges:");
+    for (size_t rank = 1; rank <= edges; rank++)
+        for (size_t j = 0; j < nodes; j++)
+            for (size_t i = 0; i <= j; i++) {
+                const uint64_t *pair = &diagram[18 + 3 * (j * (j + 1) / 2 + i)];
+                if (pair[0] == rank)
+                    printf(" %zu-%zu:%" PRIu64 "/%" PRIu64, i, j, pair[1], pair[2]);
+            }
+    printf("\n");
+}
+
+static bool print_diagram(const char *text)
+{
+    uint64_t diagram[LEXICON_DIAGRAM];
+    size_t answer[LEXICON_ANSWER];
+    if (lexicon_read(bytes(text), strlen(text), diagram, LEXICON_DIAGRAM, answer) != 0) {
+        print_refusal("diagram", answer);
+        return false;
+    }
+    print_nodes(diagram, answer[1]);
+    print_edges(diagram, answer[1], answer[2]);
+    printf("  minimal: %s\n", answer[3] ? "yes" : "no");
+    return true;
+}
+
+// Of a text that was accepted, which the call cannot refuse.
+static void print_record(const char *text, uint8_t *record)
+{
+    size_t numbering[LEXICON_LIMIT], answer[LEXICON_ANSWER];
+    lexicon_write_record(bytes(text), strlen(text), record, LEXICON_RECORD, numbering, answer);
+    printf("  record: ");
+    for (size_t i = 0; i < LEXICON_RECORD; i++)
+        printf("%02x", (unsigned)record[i]);
+    printf("\n  numbering:");
+    for (size_t i = 0; i < answer[1]; i++)
+        printf(" %zu", numbering[i]);
+    printf("\n");
+}
+
+static void print_mirrors(const char *text)
+{
+    double mirrors[LEXICON_SQUARE];
+    size_t answer[LEXICON_ANSWER];
+    if (lexicon_mirrors(bytes(text), strlen(text), mirrors, LEXICON_SQUARE, answer) != 0) {
+        print_refusal("mirrors", answer);
+        return;
+    }
+    for (size_t column = 0; column < answer[1]; column++) {
+        printf("  mirror %zu:", column);
+        for (size_t row = 0; row < answer[1]; row++)
+            printf(" %.6f", mirrors[9 * column + row]);
+        printf("\n");
+    }
+}
+
+// miratope-core's generator, which depends on the order of the nodes: texts of one figure may have different radii.
+static void print_radius(const char *text)
+{
+    double generator[LEXICON_GENERATOR];
+    size_t answer[LEXICON_ANSWER];
+    if (lexicon_generator(bytes(text), strlen(text), generator, LEXICON_GENERATOR, answer) != 0)
+        print_refusal("generator", answer);
+    else
+        printf("  radius: %.6f\n", generator[9]);
+}
+
+static int by_record(const void *a, const void *b)
+{
+    const struct article *x = a, *y = b;
+    int order = memcmp(x->record, y->record, LEXICON_RECORD);
+    return order != 0 ? order : (x->place > y->place) - (x->place < y->place);
+}
+
+// Sorted by their records, texts of one figure stand side by side.
+static void print_same(struct article *articles, size_t count)
+{
+    qsort(articles, count, sizeof *articles, by_record);
+    for (size_t i = 1; i < count; i++) {
+        bool same = memcmp(articles[i - 1].record, articles[i].record, LEXICON_RECORD) == 0;
+        if (same)
+            printf("`%s` and `%s` are the same figure\n", articles[i - 1].text, articles[i].text);
+    }
+}
+
+int main(int argc, char **argv)
+{
+    static const char *const samples[] = {"x3o4o", "x4o3o", "o4o3x", "x5/2o5s3*c", "x3o", "x6/2o", "x4o4o", "(inf)3o", "*a", "x1o", "x3o3*a", "x3_", ""};
+    const char *const *texts = argc > 1 ? (const char *const *)argv + 1 : samples;
+    size_t count = argc > 1 ? (size_t)argc - 1 : sizeof samples / sizeof *samples, accepted = 0;
+    struct article *articles = calloc(count, sizeof *articles);
+    if (!articles)
+        return 1;
+    for (size_t i = 0; i < count; i++) {
+        printf("`%s`\n", texts[i]);
+        if (!print_diagram(texts[i]))
+            continue;
+        struct article *article = &articles[accepted++];
+        article->place = i;
+        article->text = texts[i];
+        print_record(texts[i], article->record);
+        print_mirrors(texts[i]);
+        print_radius(texts[i]);
+    }
+    print_same(articles, accepted);
+    free(articles);
+    return 0;
+}

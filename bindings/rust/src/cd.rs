@@ -1,0 +1,243 @@
+//! Diagrams that were read from a text.
+
+use std::{fmt, str::FromStr};
+
+use crate::{
+    ffi::{self, LIMIT, SQUARE},
+    CdError, CdResult, Cox, Diagram, Matrix, Node, Record, StoredEdge,
+};
+
+/// A Coxeter diagram that was read from a text.
+///
+/// It keeps the text, at most 255 bytes, from which the library computes all else.
+///
+/// ```
+/// use lexicon::{Cd, Edge, Node, StoredEdge};
+///
+/// let cd = Cd::parse("x5/2o3s")?;
+/// assert_eq!(cd.nodes(), [Node::Ringed(1.0), Node::Unringed, Node::Snub(1.0)]);
+/// assert_eq!(
+///     cd.edges(),
+///     [
+///         StoredEdge { a: 0, b: 1, edge: Edge { num: 5, den: 2 } },
+///         StoredEdge { a: 1, b: 2, edge: Edge { num: 3, den: 1 } },
+///     ]
+/// );
+/// assert!(cd.minimal());
+/// # Ok::<(), lexicon::CdError>(())
+/// ```
+#[derive(Clone, Debug)]
+pub struct Cd {
+    text: String,
+    diagram: Diagram,
+    minimal: bool,
+}
+
+impl Cd {
+    /// Reads a diagram in line notation, or refuses the text with the reason and its position.
+    pub fn parse(input: &str) -> CdResult<Self> {
+        Self::parse_bytes(input.as_bytes())
+    }
+
+    /// Reads a diagram from bytes that need not be UTF-8, such as those of a file or a request.
+    ///
+    /// ```
+    /// use lexicon::{Cd, CdError};
+    ///
+    /// assert_eq!(Cd::parse_bytes(b"x3o")?.node_count(), 2);
+    /// assert_eq!(Cd::parse_bytes(b"x3\xff").unwrap_err(), CdError::NotAscii { pos: 2 });
+    /// # Ok::<(), CdError>(())
+    /// ```
+    pub fn parse_bytes(input: &[u8]) -> CdResult<Self> {
+        let (numbers, [nodes, _, minimal]) = ffi::read(input)?;
+        Ok(Self {
+            // Refusal 2 leaves only ASCII, which this copies as it is.
+            text: String::from_utf8_lossy(input).into_owned(),
+            diagram: Diagram::from_numbers(&numbers, nodes),
+            minimal: minimal == 1,
+        })
+    }
+
+    /// The text, as it was typed.
+    pub fn text(&self) -> &str {
+        &self.text
+    }
+
+    /// The nodes and edges, as plain data.
+    pub fn diagram(&self) -> &Diagram {
+        &self.diagram
+    }
+
+    /// The dimension of the polytope, which is the number of nodes.
+    pub fn dim(&self) -> usize {
+        self.node_count()
+    }
+
+    /// The number of nodes, 0 to 9.
+    pub fn node_count(&self) -> usize {
+        self.diagram.nodes.len()
+    }
+
+    /// The number of stored edges, loops included.
+    pub fn edge_count(&self) -> usize {
+        self.diagram.edges.len()
+    }
+
+    /// An iterator over the nodes, in the order in which they were read.
+    pub fn node_iter(&self) -> impl Iterator<Item = Node> + '_ {
+        self.diagram.nodes.iter().copied()
+    }
+
+    /// The nodes, in the order in which they were read.
+    pub fn nodes(&self) -> Vec<Node> {
+        self.diagram.nodes.clone()
+    }
+
+    /// The stored edges with the nodes that they join, in the order in which they were stored,
+    /// loops included.
+    pub fn edges(&self) -> Vec<StoredEdge> {
+        self.diagram.edges.clone()
+    }
+
+    /// Whether each connected component has a ringed node. Snub nodes do not count.
+    pub fn minimal(&self) -> bool {
+        self.minimal
+    }
+
+    /// The figure's filing record. Two texts have the same record exactly when they draw the same
+    /// figure, whichever way they number its nodes and write its fractions; loops play no part.
+    ///
+    /// The time grows with the numberings to be tried: about 0.1 s for nine nodes, 0.1 ms for six.
+    ///
+    /// ```
+    /// use lexicon::Cd;
+    ///
+    /// let octahedron = Cd::parse("x3o4o")?.record();
+    /// assert_eq!(octahedron, Cd::parse("o4o3x")?.record());
+    /// assert_ne!(octahedron, Cd::parse("x4o3o")?.record());
+    /// # Ok::<(), lexicon::CdError>(())
+    /// ```
+    pub fn record(&self) -> Record {
+        self.record_and_numbering().0
+    }
+
+    /// The record, and a numbering that gives it: for each place of the record the node of this
+    /// diagram that stands there. With it, what belongs to a node can be filed with the record.
+    ///
+    /// ```
+    /// use lexicon::Cd;
+    ///
+    /// let (record, numbering) = Cd::parse("x3o4o")?.record_and_numbering();
+    /// assert_eq!(numbering, [2, 1, 0]);
+    /// assert_eq!(record, Cd::parse("o4o3x")?.record());
+    /// # Ok::<(), lexicon::CdError>(())
+    /// ```
+    pub fn record_and_numbering(&self) -> (Record, Vec<usize>) {
+        let (bytes, numbering) = answered(ffi::write_record(self.text.as_bytes()));
+        (Record::from_library(bytes), numbering)
+    }
+
+    /// The Coxeter matrix: 1 on the diagonal, an edge's value where it joins two nodes, else 2.
+    pub fn cox(&self) -> Cox {
+        answered(Cox::parse(&self.text))
+    }
+
+    /// The generator point as miratope-core computes it: the x for which the matrix of
+    /// [`Cox::normals`], times x, is the vector of the nodes' lengths. It is refused with
+    /// [`CdError::Crowded`] if the mirrors don't exist, and with [`CdError::Infinite`] if a length
+    /// is infinite.
+    ///
+    /// It depends on the order of the nodes. Two texts of one figure may have different points, and
+    /// different radii: those of `x3o4o` and `o4o3x` are 1 and √5.
+    ///
+    /// ```
+    /// use lexicon::{Cd, CdError};
+    ///
+    /// let point = Cd::parse("x2u")?.generator()?;
+    /// assert_eq!(point.coordinates(), [1.0, 2.0]);
+    /// assert_eq!(point.radius(), 5.0_f64.sqrt());
+    ///
+    /// let tiling = Cd::parse("x4o4o")?;
+    /// assert_eq!(tiling.generator().unwrap_err(), CdError::Crowded { column: 2 });
+    /// # Ok::<(), CdError>(())
+    /// ```
+    pub fn generator(&self) -> CdResult<Generator> {
+        let (doubles, [nodes, ..]) = ffi::generator(self.text.as_bytes())?;
+        Ok(Generator {
+            coordinates: doubles[..nodes].to_vec(),
+            radius: doubles[LIMIT],
+        })
+    }
+
+    /// The radius of [`Cd::generator`]. It is refused as that is, and depends on the order of the
+    /// nodes as that does.
+    pub fn circumradius(&self) -> CdResult<f64> {
+        self.generator().map(|point| point.radius())
+    }
+
+    /// The reflections in the mirrors, one matrix for each node, which generate the Coxeter group.
+    /// They are refused as [`Cox::normals`] is.
+    ///
+    /// ```
+    /// use lexicon::Cd;
+    ///
+    /// let reflections = Cd::parse("x2x")?.reflections()?;
+    /// assert_eq!(reflections[0].column(0), [-1.0, 0.0]);
+    /// assert_eq!(reflections[0].column(1), [0.0, 1.0]);
+    /// # Ok::<(), lexicon::CdError>(())
+    /// ```
+    pub fn reflections(&self) -> CdResult<Vec<Matrix>> {
+        let (doubles, [nodes, ..]) = ffi::reflections(self.text.as_bytes())?;
+        let squares = doubles.chunks(SQUARE).take(nodes);
+        Ok(squares
+            .map(|square| Matrix::from_square(square, nodes))
+            .collect())
+    }
+}
+
+/// The answer to a call that refuses nothing but texts, of a text that was accepted.
+fn answered<T>(result: CdResult<T>) -> T {
+    result.unwrap_or_else(|e| unreachable!("an accepted text was refused: {e}"))
+}
+
+impl FromStr for Cd {
+    type Err = CdError;
+
+    /// As [`Cd::parse`].
+    fn from_str(text: &str) -> CdResult<Self> {
+        Self::parse(text)
+    }
+}
+
+impl From<Cd> for Cox {
+    /// As [`Cd::cox`].
+    fn from(cd: Cd) -> Self {
+        cd.cox()
+    }
+}
+
+impl fmt::Display for Cd {
+    /// Writes the nodes and edges as miratope-core does.
+    fn fmt(&self, f: &mut fmt::Formatter<'_>) -> fmt::Result {
+        self.diagram.fmt(f)
+    }
+}
+
+/// The generator point of a diagram.
+#[derive(Clone, Debug, PartialEq)]
+pub struct Generator {
+    coordinates: Vec<f64>,
+    radius: f64,
+}
+
+impl Generator {
+    /// The coordinates, one for each node.
+    pub fn coordinates(&self) -> &[f64] {
+        &self.coordinates
+    }
+
+    /// The distance of the point from the origin.
+    pub fn radius(&self) -> f64 {
+        self.radius
+    }
+}

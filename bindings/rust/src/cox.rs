@@ -1,0 +1,166 @@
+//! Coxeter matrices and their mirrors.
+
+use std::ops::Index;
+
+use crate::{
+    ffi::{self, LIMIT},
+    CdResult,
+};
+
+/// The Coxeter matrix of a diagram or of a family. `cox[(i, j)]` is the value of the edge between
+/// nodes i and j, 2 if nothing joins them, and 1 if they are the same node.
+///
+/// The families A, B, D, E and H have up to nine nodes; other sizes are refused.
+///
+/// ```
+/// use lexicon::{CdError, Cox};
+///
+/// let b3 = Cox::b(3)?;
+/// assert_eq!((b3[(0, 1)], b3[(1, 2)], b3[(0, 2)]), (4.0, 3.0, 2.0));
+/// assert_eq!(b3, Cox::parse("x4o3o")?);
+///
+/// assert_eq!(Cox::e(3).unwrap_err(), CdError::NoFamily);
+/// assert_eq!(Cox::e(9)?.normals().unwrap_err(), CdError::Crowded { column: 8 });
+/// # Ok::<(), CdError>(())
+/// ```
+#[derive(Clone, Debug)]
+pub struct Cox {
+    source: Source,
+    matrix: Matrix,
+}
+
+/// What the library computes the mirrors from, since it takes no matrix.
+#[derive(Clone, Debug)]
+enum Source {
+    Text(String),
+    Family { letter: u8, size: usize },
+}
+
+impl Cox {
+    /// Reads a diagram and turns it into its matrix.
+    pub fn parse(input: &str) -> CdResult<Self> {
+        let (square, [dim, ..]) = ffi::matrix(input.as_bytes())?;
+        Ok(Self {
+            source: Source::Text(input.to_owned()),
+            matrix: Matrix::from_square(&square, dim),
+        })
+    }
+
+    /// The matrix of the group An, for n from 1 to 9: a chain of 3s.
+    pub fn a(n: usize) -> CdResult<Self> {
+        Self::family(b'A', n)
+    }
+
+    /// The matrix of the group Bn, for n from 2 to 9: a 4, then a chain of 3s.
+    pub fn b(n: usize) -> CdResult<Self> {
+        Self::family(b'B', n)
+    }
+
+    /// The matrix of the group Dn, for n from 3 to 9: a chain of 3s from node 1 on, and a 3 between
+    /// nodes 0 and 2.
+    pub fn d(n: usize) -> CdResult<Self> {
+        Self::family(b'D', n)
+    }
+
+    /// The matrix of the group En, for n from 4 to 9: a chain of 3s from node 1 on, and a 3 between
+    /// nodes 0 and 3.
+    pub fn e(n: usize) -> CdResult<Self> {
+        Self::family(b'E', n)
+    }
+
+    /// The matrix of the group Hn, for n from 2 to 9: a 5, then a chain of 3s.
+    pub fn h(n: usize) -> CdResult<Self> {
+        Self::family(b'H', n)
+    }
+
+    fn family(letter: u8, size: usize) -> CdResult<Self> {
+        let (square, [dim, ..]) = ffi::family_matrix(letter, size)?;
+        Ok(Self {
+            source: Source::Family { letter, size },
+            matrix: Matrix::from_square(&square, dim),
+        })
+    }
+
+    /// The number of rows, which is that of the nodes.
+    pub fn dim(&self) -> usize {
+        self.matrix.dim()
+    }
+
+    /// The mirrors: an upper triangular matrix whose columns are unit normals to them. They are
+    /// refused with [`CdError::Crowded`](crate::CdError::Crowded) if they do not fit in spherical
+    /// space.
+    ///
+    /// ```
+    /// use lexicon::{CdError, Cox};
+    ///
+    /// let mirrors = Cox::parse("x3o")?.normals()?;
+    /// assert_eq!(mirrors.column(0), [1.0, 0.0]);
+    /// assert!((mirrors[(0, 1)] - 0.5).abs() < 1e-15);
+    /// assert!((mirrors[(1, 1)] - 0.75_f64.sqrt()).abs() < 1e-15);
+    ///
+    /// let tiling = Cox::parse("x6o3o")?;
+    /// assert_eq!(tiling.normals().unwrap_err(), CdError::Crowded { column: 2 });
+    /// # Ok::<(), CdError>(())
+    /// ```
+    pub fn normals(&self) -> CdResult<Matrix> {
+        let (square, [dim, ..]) = match &self.source {
+            Source::Text(text) => ffi::mirrors(text.as_bytes())?,
+            Source::Family { letter, size } => ffi::family_mirrors(*letter, *size)?,
+        };
+        Ok(Matrix::from_square(&square, dim))
+    }
+}
+
+impl PartialEq for Cox {
+    /// Compares the matrices alone: a family's matrix may equal that of a text.
+    fn eq(&self, other: &Self) -> bool {
+        self.matrix == other.matrix
+    }
+}
+
+impl Index<(usize, usize)> for Cox {
+    type Output = f64;
+
+    /// The entry of a row and a column. Panics if either is out of range.
+    fn index(&self, at: (usize, usize)) -> &f64 {
+        &self.matrix[at]
+    }
+}
+
+/// A square matrix of doubles: `matrix[(i, j)]` is row i of column j.
+#[derive(Clone, Debug, PartialEq)]
+pub struct Matrix {
+    dim: usize,
+    /// Column after column.
+    entries: Vec<f64>,
+}
+
+impl Matrix {
+    /// The first `dim` rows and columns of a square that the library laid out, nine rows a column.
+    pub(crate) fn from_square(square: &[f64], dim: usize) -> Self {
+        let columns = square.chunks(LIMIT).take(dim);
+        let entries = columns.flat_map(|column| &column[..dim]).copied().collect();
+        Self { dim, entries }
+    }
+
+    /// The number of rows, and of columns.
+    pub fn dim(&self) -> usize {
+        self.dim
+    }
+
+    /// The column of this index; of mirrors, the normal of this node's mirror. Panics if it is out
+    /// of range.
+    pub fn column(&self, column: usize) -> &[f64] {
+        assert!(column < self.dim, "column {column} of {}", self.dim);
+        &self.entries[self.dim * column..][..self.dim]
+    }
+}
+
+impl Index<(usize, usize)> for Matrix {
+    type Output = f64;
+
+    /// The entry of a row and a column. Panics if either is out of range.
+    fn index(&self, (row, column): (usize, usize)) -> &f64 {
+        &self.column(column)[row]
+    }
+}

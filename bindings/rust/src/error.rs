@@ -1,0 +1,210 @@
+//! Refusals.
+
+use std::{error::Error, fmt};
+
+/// What a call gives, or why it refuses.
+pub type CdResult<T> = Result<T, CdError>;
+
+/// Why a text, a record, mirrors, a generator or a family is refused. Positions, nodes, columns and
+/// edges are counted from 0, positions in bytes.
+///
+/// ```
+/// use lexicon::{Cd, CdError};
+///
+/// let refusal = Cd::parse("x4294967296o").unwrap_err();
+/// assert_eq!(refusal, CdError::ParseError { pos: 10 });
+/// assert_eq!(refusal.number(), 5);
+/// assert_eq!(refusal.to_string(), "parsing failed at position 10");
+///
+/// let refusal = Cd::parse("x3o3*a").unwrap_err();
+/// assert_eq!(refusal, CdError::RepeatEdge { a: 1, b: 0 });
+/// ```
+#[derive(Clone, Copy, Debug, PartialEq, Eq)]
+pub enum CdError {
+    /// The text has more than 255 bytes.
+    TooLong {
+        /// Always 255, the first byte too many.
+        pos: usize,
+    },
+
+    /// A byte of the text is 128 or more.
+    NotAscii {
+        /// The first such byte.
+        pos: usize,
+    },
+
+    /// A parenthesis was opened but not closed.
+    MismatchedParenthesis {
+        /// The length of the text.
+        pos: usize,
+    },
+
+    /// The text ends where a node, a reference's letter or the end of an edge is due.
+    UnexpectedEnding {
+        /// The length of the text.
+        pos: usize,
+    },
+
+    /// A length in parentheses, or a part of an edge, is no number.
+    ParseError {
+        /// Its last byte; for `()` the `)`, for an empty part the slash before it.
+        pos: usize,
+    },
+
+    /// A byte fits nothing, or a length is nan.
+    InvalidSymbol {
+        /// The byte, or the last letter of nan.
+        pos: usize,
+    },
+
+    /// The numbers of an edge are none that an edge has: `num` > 1 and 0 < `den` < `num`.
+    InvalidEdge {
+        /// The numerator as typed.
+        num: u32,
+
+        /// The denominator as typed, 1 if there is none.
+        den: u32,
+
+        /// The edge's last byte.
+        pos: usize,
+    },
+
+    /// Two nodes are joined twice.
+    RepeatEdge {
+        /// The node that the second edge comes from.
+        a: usize,
+
+        /// The node that it goes to.
+        b: usize,
+    },
+
+    /// A length in parentheses has too many digits or too large a power of ten.
+    OutOfRange {
+        /// Its last byte.
+        pos: usize,
+    },
+
+    /// The diagram has a tenth node.
+    TooManyNodes {
+        /// The first byte of the tenth node.
+        pos: usize,
+    },
+
+    /// An edge goes to a node that the diagram lacks.
+    MissingNode {
+        /// The edge, of all that the text has.
+        edge: usize,
+    },
+
+    /// A buffer is too short. The buffers of this crate are long enough, so it never returns this;
+    /// it is here because the library has the number.
+    ShortBuffer,
+
+    /// A record is not 370 bytes long.
+    RecordLength,
+
+    /// No diagram has these bytes for its record.
+    NoDiagram,
+
+    /// The mirrors don't exist: they would not fit in spherical space.
+    Crowded {
+        /// The first mirror that doesn't fit.
+        column: usize,
+    },
+
+    /// A length is infinite, so that there is no generator.
+    Infinite {
+        /// The first such node.
+        node: usize,
+    },
+
+    /// No family has this letter and size.
+    NoFamily,
+}
+
+impl CdError {
+    /// The number of this refusal in the specification and in `lexicon.h`, 1 to 17, for logs and
+    /// for messages to programs in other languages.
+    pub fn number(&self) -> u32 {
+        match self {
+            Self::TooLong { .. } => 1,
+            Self::NotAscii { .. } => 2,
+            Self::MismatchedParenthesis { .. } => 3,
+            Self::UnexpectedEnding { .. } => 4,
+            Self::ParseError { .. } => 5,
+            Self::InvalidSymbol { .. } => 6,
+            Self::InvalidEdge { .. } => 7,
+            Self::RepeatEdge { .. } => 8,
+            Self::OutOfRange { .. } => 9,
+            Self::TooManyNodes { .. } => 10,
+            Self::MissingNode { .. } => 11,
+            Self::ShortBuffer => 12,
+            Self::RecordLength => 13,
+            Self::NoDiagram => 14,
+            Self::Crowded { .. } => 15,
+            Self::Infinite { .. } => 16,
+            Self::NoFamily => 17,
+        }
+    }
+
+    /// The refusal that the library tells by its number and fields.
+    pub(crate) fn from_numbers([number, a, b, c]: [usize; 4]) -> Self {
+        match number {
+            1 => Self::TooLong { pos: a },
+            2 => Self::NotAscii { pos: a },
+            3 => Self::MismatchedParenthesis { pos: a },
+            4 => Self::UnexpectedEnding { pos: a },
+            5 => Self::ParseError { pos: a },
+            6 => Self::InvalidSymbol { pos: a },
+            7 => Self::InvalidEdge {
+                num: a as u32, // the text's numbers are 32-bit, else 5 refuses them
+                den: b as u32,
+                pos: c,
+            },
+            8 => Self::RepeatEdge { a, b },
+            9 => Self::OutOfRange { pos: a },
+            10 => Self::TooManyNodes { pos: a },
+            11 => Self::MissingNode { edge: a },
+            12 => Self::ShortBuffer,
+            13 => Self::RecordLength,
+            14 => Self::NoDiagram,
+            15 => Self::Crowded { column: a },
+            16 => Self::Infinite { node: a },
+            17 => Self::NoFamily,
+            _ => unreachable!("lexicon.h has no refusal {number}"),
+        }
+    }
+}
+
+impl fmt::Display for CdError {
+    /// Writes miratope-core's words where it has the case.
+    fn fmt(&self, f: &mut fmt::Formatter<'_>) -> fmt::Result {
+        match *self {
+            Self::TooLong { pos } => write!(f, "CD too long at position {pos}"),
+            Self::NotAscii { pos } => write!(f, "non-ASCII byte at position {pos}"),
+            Self::MismatchedParenthesis { pos } => {
+                write!(f, "mismatched parenthesis at position {pos}")
+            }
+            Self::UnexpectedEnding { pos } => write!(f, "CD ended unexpectedly at position {pos}"),
+            Self::ParseError { pos } => write!(f, "parsing failed at position {pos}"),
+            Self::InvalidSymbol { pos } => write!(f, "invalid symbol found at position {pos}"),
+            Self::InvalidEdge { num, den, pos } => {
+                write!(f, "invalid edge {num}/{den} at position {pos}")
+            }
+            Self::RepeatEdge { a, b } => write!(f, "repeat edge between {a} and {b}"),
+            Self::OutOfRange { pos } => write!(f, "number out of range at position {pos}"),
+            Self::TooManyNodes { pos } => write!(f, "too many nodes at position {pos}"),
+            Self::MissingNode { edge } => write!(f, "missing node in edge {edge}"),
+            Self::ShortBuffer => write!(f, "buffer too short"),
+            Self::RecordLength => write!(f, "record not 370 bytes long"),
+            Self::NoDiagram => write!(f, "no diagram has this record"),
+            Self::Crowded { column } => {
+                write!(f, "mirror {column} does not fit in spherical space")
+            }
+            Self::Infinite { node } => write!(f, "infinite length at node {node}"),
+            Self::NoFamily => write!(f, "no family of this letter and size"),
+        }
+    }
+}
+
+impl Error for CdError {}

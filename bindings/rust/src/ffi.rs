@@ -1,0 +1,186 @@
+//! The calls of include/lexicon.h, and the crate's only unsafe code.
+//!
+//! The header asks of a caller that a pointer has as many elements behind it as the length beside
+//! it says, an answer four and a numbering nine, and that none overlap. Each function below lends
+//! arrays of its own, of these lengths, so it is safe for every argument, and 12 cannot come.
+
+use crate::{CdError, CdResult};
+
+pub const LIMIT: usize = 9;
+const ANSWER: usize = 4;
+pub const RECORD: usize = 370;
+pub const DIAGRAM: usize = 153;
+pub const SQUARE: usize = 81;
+pub const GENERATOR: usize = 10;
+pub const REFLECTIONS: usize = 729;
+
+/// What a call writes, and the three numbers that it tells of it.
+pub type Written<T, const N: usize> = CdResult<([T; N], [usize; ANSWER - 1])>;
+
+type OfBytes<T> = unsafe extern "C" fn(*const u8, usize, *mut T, usize, *mut usize) -> usize;
+type OfFamily = unsafe extern "C" fn(u8, usize, *mut f64, usize, *mut usize) -> usize;
+
+extern "C" {
+    fn lexicon_read(
+        text: *const u8,
+        text_len: usize,
+        out: *mut u64,
+        out_len: usize,
+        answer: *mut usize,
+    ) -> usize;
+
+    fn lexicon_write_record(
+        text: *const u8,
+        text_len: usize,
+        out: *mut u8,
+        out_len: usize,
+        numbering: *mut usize,
+        answer: *mut usize,
+    ) -> usize;
+
+    fn lexicon_read_record(
+        bytes: *const u8,
+        bytes_len: usize,
+        out: *mut u64,
+        out_len: usize,
+        answer: *mut usize,
+    ) -> usize;
+
+    fn lexicon_matrix(
+        text: *const u8,
+        text_len: usize,
+        out: *mut f64,
+        out_len: usize,
+        answer: *mut usize,
+    ) -> usize;
+
+    fn lexicon_mirrors(
+        text: *const u8,
+        text_len: usize,
+        out: *mut f64,
+        out_len: usize,
+        answer: *mut usize,
+    ) -> usize;
+
+    fn lexicon_generator(
+        text: *const u8,
+        text_len: usize,
+        out: *mut f64,
+        out_len: usize,
+        answer: *mut usize,
+    ) -> usize;
+
+    fn lexicon_reflections(
+        text: *const u8,
+        text_len: usize,
+        out: *mut f64,
+        out_len: usize,
+        answer: *mut usize,
+    ) -> usize;
+
+    fn lexicon_family_matrix(
+        letter: u8,
+        size: usize,
+        out: *mut f64,
+        out_len: usize,
+        answer: *mut usize,
+    ) -> usize;
+
+    fn lexicon_family_mirrors(
+        letter: u8,
+        size: usize,
+        out: *mut f64,
+        out_len: usize,
+        answer: *mut usize,
+    ) -> usize;
+}
+
+/// Tells the nodes, the stored edges and whether the diagram is minimal.
+pub fn read(text: &[u8]) -> Written<u64, DIAGRAM> {
+    of_bytes(lexicon_read, text)
+}
+
+/// Tells the nodes and the edges.
+pub fn read_record(bytes: &[u8]) -> Written<u64, DIAGRAM> {
+    of_bytes(lexicon_read_record, bytes)
+}
+
+/// Tells the nodes, as do all the calls below.
+pub fn matrix(text: &[u8]) -> Written<f64, SQUARE> {
+    of_bytes(lexicon_matrix, text)
+}
+
+pub fn mirrors(text: &[u8]) -> Written<f64, SQUARE> {
+    of_bytes(lexicon_mirrors, text)
+}
+
+pub fn generator(text: &[u8]) -> Written<f64, GENERATOR> {
+    of_bytes(lexicon_generator, text)
+}
+
+pub fn reflections(text: &[u8]) -> Written<f64, REFLECTIONS> {
+    of_bytes(lexicon_reflections, text)
+}
+
+pub fn family_matrix(letter: u8, size: usize) -> Written<f64, SQUARE> {
+    of_family(lexicon_family_matrix, letter, size)
+}
+
+pub fn family_mirrors(letter: u8, size: usize) -> Written<f64, SQUARE> {
+    of_family(lexicon_family_mirrors, letter, size)
+}
+
+/// The record, and the numbering that gives it, which has a place for each node.
+pub fn write_record(text: &[u8]) -> CdResult<([u8; RECORD], Vec<usize>)> {
+    let mut out = [0; RECORD];
+    let mut numbering = [0; LIMIT];
+    let mut answer = [0; ANSWER];
+    // SAFETY: the lengths are the arrays' own, and the header's for the numbering and the answer.
+    unsafe {
+        lexicon_write_record(
+            text.as_ptr(),
+            text.len(),
+            out.as_mut_ptr(),
+            out.len(),
+            numbering.as_mut_ptr(),
+            answer.as_mut_ptr(),
+        )
+    };
+    let [nodes, ..] = told(answer)?;
+    Ok((out, numbering[..nodes].to_vec()))
+}
+
+/// `call` is one of the header's that take bytes.
+fn of_bytes<T: Copy + Default, const N: usize>(call: OfBytes<T>, bytes: &[u8]) -> Written<T, N> {
+    let mut out = [T::default(); N];
+    let mut answer = [0; ANSWER];
+    // SAFETY: the lengths are the slice's and the array's own, and the header's for the answer.
+    unsafe {
+        call(
+            bytes.as_ptr(),
+            bytes.len(),
+            out.as_mut_ptr(),
+            N,
+            answer.as_mut_ptr(),
+        )
+    };
+    Ok((out, told(answer)?))
+}
+
+/// `call` is one of the header's that take a family.
+fn of_family<const N: usize>(call: OfFamily, letter: u8, size: usize) -> Written<f64, N> {
+    let mut out = [0.0; N];
+    let mut answer = [0; ANSWER];
+    // SAFETY: the length is the array's own, and the header's for the answer.
+    unsafe { call(letter, size, out.as_mut_ptr(), N, answer.as_mut_ptr()) };
+    Ok((out, told(answer)?))
+}
+
+/// What stands behind the 0 of an answer, or the refusal.
+fn told(answer: [usize; ANSWER]) -> CdResult<[usize; ANSWER - 1]> {
+    let [number, told @ ..] = answer;
+    match number {
+        0 => Ok(told),
+        _ => Err(CdError::from_numbers(answer)),
+    }
+}

@@ -1,0 +1,166 @@
+//! Filing records.
+
+use std::{error::Error, fmt, str::FromStr};
+
+use crate::{
+    ffi::{self, RECORD},
+    CdError, CdResult, Diagram,
+};
+
+/// The filing record of a figure, 370 bytes.
+///
+/// Every value of this type is the record of some diagram: it comes from [`Cd::record`], or from
+/// bytes or digits that the library has read back. Records are ordered byte by byte.
+///
+/// As a text it is 740 hexadecimal digits, written in lower case and read in either:
+///
+/// ```
+/// use lexicon::{Cd, Record};
+///
+/// let record = Cd::parse("x4o3o")?.record();
+/// let digits = record.to_string();
+/// assert!(digits.starts_with("03010000000000000000"));
+/// assert_eq!(digits.parse::<Record>()?, record);
+/// # Ok::<(), Box<dyn std::error::Error>>(())
+/// ```
+///
+/// It serves as a key, so that each figure is filed once:
+///
+/// ```
+/// use std::collections::HashMap;
+/// use lexicon::Cd;
+///
+/// let mut articles = HashMap::new();
+/// articles.insert(Cd::parse("x3o4o")?.record(), "Octahedron");
+/// assert_eq!(articles[&Cd::parse("o4o3x")?.record()], "Octahedron");
+/// # Ok::<(), lexicon::CdError>(())
+/// ```
+///
+/// [`Cd::record`]: crate::Cd::record
+#[derive(Clone, Copy, PartialEq, Eq, PartialOrd, Ord, Hash)]
+pub struct Record([u8; Record::LEN]);
+
+impl Record {
+    /// How many bytes a record has.
+    pub const LEN: usize = RECORD;
+
+    /// Takes bytes that the library wrote.
+    pub(crate) fn from_library(bytes: [u8; Self::LEN]) -> Self {
+        Self(bytes)
+    }
+
+    /// Takes the bytes of a record, or refuses them with [`CdError::RecordLength`] or
+    /// [`CdError::NoDiagram`]. It takes the time of [`Cd::record`](crate::Cd::record), since the
+    /// bytes must be the smallest that any numbering gives.
+    ///
+    /// ```
+    /// use lexicon::{Cd, CdError, Record};
+    ///
+    /// let record = Cd::parse("x4o3o")?.record();
+    /// assert_eq!(Record::from_bytes(record.as_bytes()), Ok(record));
+    /// assert_eq!(Record::from_bytes(b"x4o3o"), Err(CdError::RecordLength));
+    /// assert_eq!(Record::from_bytes(&[255; Record::LEN]), Err(CdError::NoDiagram));
+    /// # Ok::<(), CdError>(())
+    /// ```
+    pub fn from_bytes(bytes: &[u8]) -> CdResult<Self> {
+        ffi::read_record(bytes)?;
+        let bytes = bytes.try_into(); // fails on no length that the library accepts
+        bytes.map(Self).map_err(|_| CdError::RecordLength)
+    }
+
+    /// The bytes, for a file or a database.
+    pub fn as_bytes(&self) -> &[u8; Self::LEN] {
+        &self.0
+    }
+
+    /// The diagram, in the record's own numbering, its edges in lowest terms and without loops. It
+    /// takes the time of [`Record::from_bytes`].
+    ///
+    /// ```
+    /// use lexicon::{Cd, Node};
+    ///
+    /// let diagram = Cd::parse("x8/2o")?.record().diagram();
+    /// assert_eq!(diagram.nodes, [Node::Unringed, Node::Ringed(1.0)]);
+    /// assert_eq!(diagram.edges[0].edge.to_string(), "4");
+    /// # Ok::<(), lexicon::CdError>(())
+    /// ```
+    pub fn diagram(&self) -> Diagram {
+        match ffi::read_record(&self.0) {
+            Ok((numbers, [nodes, ..])) => Diagram::from_numbers(&numbers, nodes),
+            Err(e) => unreachable!("a record that was accepted or written was refused: {e}"),
+        }
+    }
+}
+
+impl fmt::Display for Record {
+    /// Writes 740 hexadecimal digits in lower case.
+    fn fmt(&self, f: &mut fmt::Formatter<'_>) -> fmt::Result {
+        self.0.iter().try_for_each(|byte| write!(f, "{byte:02x}"))
+    }
+}
+
+impl fmt::Debug for Record {
+    fn fmt(&self, f: &mut fmt::Formatter<'_>) -> fmt::Result {
+        write!(f, "Record({self})")
+    }
+}
+
+impl FromStr for Record {
+    type Err = RecordError;
+
+    /// Reads 740 hexadecimal digits in either case. The length is tested first, then the digits,
+    /// then the record.
+    fn from_str(text: &str) -> Result<Self, RecordError> {
+        let len = text.len();
+        if len != 2 * Self::LEN {
+            return Err(RecordError::Length { len });
+        }
+        let mut bytes = [0; Self::LEN];
+        for (pos, &byte) in text.as_bytes().iter().enumerate() {
+            let digit = char::from(byte).to_digit(16);
+            let digit = digit.ok_or(RecordError::Digit { pos })?;
+            bytes[pos / 2] = bytes[pos / 2] << 4 | digit as u8;
+        }
+        Self::from_bytes(&bytes).map_err(RecordError::Refused)
+    }
+}
+
+/// Why a text is no record.
+///
+/// ```
+/// use lexicon::{CdError, Record, RecordError};
+///
+/// let refusal = |text: &str| text.parse::<Record>().unwrap_err();
+/// assert_eq!(refusal("03"), RecordError::Length { len: 2 });
+/// assert_eq!(refusal(&"0g".repeat(370)), RecordError::Digit { pos: 1 });
+/// assert_eq!(refusal(&"01".repeat(370)), RecordError::Refused(CdError::NoDiagram));
+/// ```
+#[derive(Clone, Copy, Debug, PartialEq, Eq)]
+pub enum RecordError {
+    /// The text is not 740 bytes long.
+    Length {
+        /// How long it is, in bytes.
+        len: usize,
+    },
+
+    /// A byte is no hexadecimal digit.
+    Digit {
+        /// The first such byte, from 0.
+        pos: usize,
+    },
+
+    /// The digits are those of no record.
+    Refused(CdError),
+}
+
+impl fmt::Display for RecordError {
+    fn fmt(&self, f: &mut fmt::Formatter<'_>) -> fmt::Result {
+        match self {
+            Self::Length { len } => write!(f, "{len} bytes in place of 740 digits"),
+            Self::Digit { pos } => write!(f, "no hexadecimal digit at position {pos}"),
+            Self::Refused(e) => e.fmt(f),
+        }
+    }
+}
+
+impl Error for RecordError {}

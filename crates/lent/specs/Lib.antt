@@ -1,0 +1,3 @@
+-- What a call for C tells and shows.
+pub mod Outcomes
+pub mod Shown

@@ -1,0 +1,67 @@
+-- What each call tells and shows.
+use mathlib.Core.List.{List, [], _∷_, _++_}
+use Prim.Native.Nat.{ℕ}
+use lib.Ieee.{Float}
+use Rattle.float.specs.Pick.{pick}
+use Rattle.cd.specs.declared.Cd.{Cd}
+use Rattle.cd.specs.declared.Pair.{Pair}
+use Rattle.cd.specs.declared.Place.{Place}
+use Rattle.generator.specs.declared.Generator.{Generator}
+use Rattle.lexicon.specs.declared.Reading.{Reading}
+use Rattle.lexicon.specs.declared.geometry.Generated.{Generated}
+use Rattle.lexicon.specs.declared.geometry.Reflected.{Reflected}
+use Rattle.lexicon.specs.declared.geometry.Square.{Square}
+use Rattle.parse.specs.declared.Answer.{Answer}
+use Rattle.parse.specs.declared.Answer.the-variants as said
+use Rattle.parse.specs.declared.Read.{Read}
+use Rattle.reflections.specs.declared.Matrix.{Matrix}
+use Rattle.tables.specs.Diagrams.{filed}
+use Rattle.lent.specs.Outcomes.{Outcome, Shows, Refuses}
+
+unfoldable pub outcome : {A : Type 0} → Answer → List ℕ → List A → Outcome A
+outcome said.Accepted fs xs = Shows fs xs
+outcome (said.Refused e) fs xs = Refuses e
+
+-- what f gives of each element, end to end
+unfoldable pub flat : {A B : Type 0} → (A → List B) → List A → List B
+flat f [] = []
+flat f (x ∷ xs) = f x ++ flat f xs
+
+-- ---- diagrams
+
+-- a node: its kind, then its value bits, as in a record
+unfoldable pub nodeNumbers : Place → List ℕ
+unfolding filed
+nodeNumbers p = filed (p .node) .kind ∷ filed (p .node) .bits ∷ []
+
+-- what joins two nodes: the edge's rank in the order stored, num and den, or zeros
+unfoldable pub pairNumbers : Pair → List ℕ
+pairNumbers p = p .rank ∷ p .edge .num ∷ p .edge .den ∷ []
+
+-- the nodes in their places, then the pairs in theirs
+unfoldable pub numbersOf : Cd → List ℕ
+unfolding flat nodeNumbers pairNumbers
+numbersOf cd = flat nodeNumbers (cd .nodes) ++ flat pairNumbers (cd .pairs)
+
+-- of a text: nodes, stored edges, minimal 1 or 0
+abbrev pub ofReading : Reading → Outcome ℕ
+ofReading r = outcome (r .read .answer) (r .read .cd .count ∷ r .read .cd .edges ∷ pick (r .minimal) 1 0 ∷ []) (numbersOf (r .read .cd))
+
+-- of a record: nodes, edges
+abbrev pub ofRecord : Read → Outcome ℕ
+ofRecord r = outcome (r .answer) (r .cd .count ∷ r .cd .edges ∷ []) (numbersOf (r .cd))
+
+-- ---- matrices, mirrors, generators, reflections: the nodes are told
+
+abbrev pub ofSquare : Square → Outcome Float
+ofSquare s = outcome (s .answer) (s .count ∷ []) (s .at)
+
+-- the coordinates, and then the circumradius
+abbrev pub ofGenerated : Generated → Outcome Float
+ofGenerated s = outcome (s .answer) (s .generator .count ∷ []) (s .generator .at ++ (s .generator .radius ∷ []))
+
+abbrev pub entries : List Matrix → List Float
+entries = flat (λ (m : Matrix). m .at)
+
+abbrev pub ofReflected : Reflected → Outcome Float
+ofReflected s = outcome (s .answer) (s .reflections .count ∷ []) (entries (s .reflections .of))
