@@ -20,7 +20,7 @@ use Rattle.cd.specs.declared.Place.{Place}
 use Rattle.parse.specs.declared.Answer.{Answer}
 use Rattle.parse.specs.declared.Answer.the-variants as said
 use Rattle.lent.specs.Outcomes.{Outcome, Shows, Refuses, fitted, lent, told, Lends}
-use Rattle.lent.specs.Shown.{outcome, flat, nodeNumbers, pairNumbers, numbersOf}
+use Rattle.lent.specs.Shown.{diagramLength, outcome, flat, nodeNumbers, pairNumbers, numbersOf}
 use Rattle.lent.proofs.Copying.{flat-length}
 
 -- the four numbers are f, and the first is returned
@@ -61,7 +61,7 @@ pub pairs-long : (ps : List Pair) → length (flat pairNumbers ps) ≡ 3 * lengt
 unfolding pairNumbers
 pairs-long ps = flat-length pairNumbers 3 (λ p. refl) ps
 
-pub numbers-long : (cd : Cd) → length (cd .nodes) ≡ limit → length (cd .pairs) ≡ pairLimit → length (numbersOf cd) ≡ 153
+pub numbers-long : (cd : Cd) → length (cd .nodes) ≡ limit → length (cd .pairs) ≡ pairLimit → length (numbersOf cd) ≡ diagramLength
 unfolding numbersOf
 numbers-long cd n p =
     length-append (flat nodeNumbers (cd .nodes)) (flat pairNumbers (cd .pairs)) ∙ omega (arith, nodes-long (cd .nodes), pairs-long (cd .pairs), n, p)

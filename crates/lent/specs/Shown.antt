@@ -1,8 +1,9 @@
 -- What each call tells and shows.
 use mathlib.Core.List.{List, [], _∷_, _++_}
-use Prim.Native.Nat.{ℕ}
+use Prim.Native.Nat.{ℕ, _+_, _*_}
 use lib.Ieee.{Float}
 use Rattle.float.specs.Pick.{pick}
+use Rattle.cd.specs.Diagrams.{limit, pairLimit}
 use Rattle.cd.specs.declared.Cd.{Cd}
 use Rattle.cd.specs.declared.Pair.{Pair}
 use Rattle.cd.specs.declared.Place.{Place}
@@ -17,6 +18,16 @@ use Rattle.parse.specs.declared.Read.{Read}
 use Rattle.reflections.specs.declared.Matrix.{Matrix}
 use Rattle.tables.specs.Diagrams.{filed}
 use Rattle.lent.specs.Outcomes.{Outcome, Shows, Refuses}
+
+-- how many elements a diagram, a matrix and reflections show
+abbrev pub diagramLength : ℕ
+diagramLength = 2 * limit + 3 * pairLimit
+
+abbrev pub squareLength : ℕ
+squareLength = limit * limit
+
+abbrev pub reflectionsLength : ℕ
+reflectionsLength = squareLength * limit
 
 unfoldable pub outcome : {A : Type 0} → Answer → List ℕ → List A → Outcome A
 outcome said.Accepted fs xs = Shows fs xs

@@ -18,21 +18,21 @@ ghost use Prim.Native.Nat.{ℕ, _+_, _*_, _≤_};
 ghost use lib.ListN.{length, getD};
 ghost use lib.Seq.{sets};
 ghost use Rattle.cd.specs.Arrays.{padded};
-ghost use Rattle.cd.specs.Diagrams.{limit, pairLimit};
+ghost use Rattle.cd.specs.Diagrams.{limit};
 ghost use Rattle.cd.specs.Refusals.{numberOf};
 ghost use Rattle.parse.specs.declared.Answer.the-variants as said;
 ghost use Rattle.tables.specs.Tables.{IsNumber, Numbers};
 ghost use Rattle.lent.specs.Outcomes.{Lends};
-ghost use Rattle.lent.specs.Shown.{outcome, flat, nodeNumbers, pairNumbers, numbersOf, entries, ofSquare, ofGenerated, ofReflected};
+ghost use Rattle.lent.specs.Shown.{diagramLength, squareLength, reflectionsLength, outcome, flat, nodeNumbers, pairNumbers, numbersOf, entries, ofSquare, ofGenerated, ofReflected};
 
 // How many numbers an answer and a diagram have; how many doubles a generator and reflections.
 pub const ANSWER: usize = 4;
 
-const DIAGRAM: usize = 153;
+const DIAGRAM: usize = 2 * LIMIT + 3 * PAIRS;
 
-const GENERATOR: usize = 10;
+const GENERATOR: usize = LIMIT + 1;
 
-const REFLECTIONS: usize = 729;
+const REFLECTIONS: usize = SQUARE * LIMIT;
 
 // ---- what a call tells
 
@@ -66,8 +66,8 @@ fn put(out: &mut [f64], at: usize, from: &[f64])
 }
 
 fn put_matrix(out: &mut [f64], at: usize, m: Matrix)
-    requires { ⌜ at + 81 ≤ length (now out) ⌝ }
-    ensures { λ _. ⌜ (length (m .at) ≡ 81) × (now (out .exit) ≡ sets (now (out .entry)) at (m .at)) ⌝ }
+    requires { ⌜ at + squareLength ≤ length (now out) ⌝ }
+    ensures { λ _. ⌜ (length (m .at) ≡ squareLength) × (now (out .exit) ≡ sets (now (out .entry)) at (m .at)) ⌝ }
 {
     let entries = m.at;
     put(out, at, &entries[..]);
@@ -75,7 +75,7 @@ fn put_matrix(out: &mut [f64], at: usize, m: Matrix)
 
 // Nine matrices, end to end.
 fn put_matrices(out: &mut [f64], of: [Matrix; LIMIT])
-    requires { ⌜ 729 ≤ length (now out) ⌝ }
+    requires { ⌜ reflectionsLength ≤ length (now out) ⌝ }
     ensures { λ _. ⌜ now (out .exit) ≡ sets (now (out .entry)) 0 (entries of) ⌝ }
 {
     let mut i = 0;
@@ -116,7 +116,7 @@ fn put_pair(out: &mut [u64], at: usize, p: Pair)
 }
 
 fn put_pairs(out: &mut [u64], pairs: [Pair; PAIRS])
-    requires { ⌜ 2 * limit + 3 * pairLimit ≤ length (now out) ⌝ }
+    requires { ⌜ diagramLength ≤ length (now out) ⌝ }
     ensures { λ _. ⌜ now (out .exit) ≡ sets (now (out .entry)) (2 * limit) (flat pairNumbers pairs) ⌝ }
 {
     let mut i = 0;
@@ -127,7 +127,7 @@ fn put_pairs(out: &mut [u64], pairs: [Pair; PAIRS])
 }
 
 fn put_diagram(out: &mut [u64], cd: Cd)
-    requires { ⌜ (2 * limit + 3 * pairLimit ≤ length (now out)) × Numbers (cd .nodes) ⌝ }
+    requires { ⌜ (diagramLength ≤ length (now out)) × Numbers (cd .nodes) ⌝ }
     ensures { λ _. ⌜ now (out .exit) ≡ sets (now (out .entry)) 0 (numbersOf cd) ⌝ }
 {
     let nodes = cd.nodes;
@@ -177,7 +177,7 @@ pub fn show_generated(s: Generated, out: &mut [f64], answer: &mut [usize; ANSWER
 }
 
 pub fn show_reflected(s: Reflected, out: &mut [f64], answer: &mut [usize; ANSWER]) -> usize
-    requires { ⌜ length (entries (s .reflections .of)) ≡ 729 ⌝ }
+    requires { ⌜ length (entries (s .reflections .of)) ≡ reflectionsLength ⌝ }
     ensures { λ r. ⌜ Lends (ofReflected s) (now (out .entry)) (now (out .exit)) (now (answer .exit)) r ⌝ }
 {
     let a = s.answer;

@@ -1,4 +1,4 @@
--- Nine reflections have 729 entries. Assumes nothing.
+-- How many entries reflections have. Assumes nothing.
 use mathlib.Core.List.{List, [], _∷_}
 use mathlib.Core.Path.{_≡_, ap, _∙_}
 use Prim.Native.Nat.{ℕ, zero, suc, _*_}
@@ -21,7 +21,7 @@ use Rattle.parse.specs.Reading.{Reading, Accepted, Refused}
 use Rattle.reflections.specs.Reflections.{reflection}
 use Rattle.reflections.specs.Shown.{reflectionsOf}
 use Rattle.reflections.specs.declared.Matrix.{Matrix}
-use Rattle.lent.specs.Shown.{entries}
+use Rattle.lent.specs.Shown.{squareLength, reflectionsLength, entries}
 use Rattle.lent.specs.Shown as shown
 use Rattle.lent.proofs.Copying.{flat-append}
 
@@ -33,15 +33,15 @@ entries-long w g h (suc n) =
     ∙ length-append (entries (flat n g)) (entries (g n ∷ []))
     ∙ omega (arith, entries-long w g h n, length-append (g n .at) [], h n)
 
-of-long : (n : ℕ) (m : Square) → length (entries (reflectionsOf n m .of)) ≡ 729
+of-long : (n : ℕ) (m : Square) → length (entries (reflectionsOf n m .of)) ≡ reflectionsLength
 unfolding reflectionsOf
 of-long n m =
     let r : ℕ → Square = λ i. pick (ltb i n) (reflection (m i) n) zeros in
-    entries-long 81 (λ i. record { at = flatSquare limit (r i) }) (λ i. length-square limit (r i)) limit
+    entries-long squareLength (λ i. record { at = flatSquare limit (r i) }) (λ i. length-square limit (r i)) limit
 
 -- those that any call answers
 abbrev Long : Reflected → Type 0
-Long s = length (entries (s .reflections .of)) ≡ 729
+Long s = length (entries (s .reflections .of)) ≡ reflectionsLength
 
 refused-long : (e : CdError) → Long (refusedReflections e)
 unfolding refusedReflections

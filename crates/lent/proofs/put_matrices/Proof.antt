@@ -7,18 +7,19 @@ use lib.ListN.{length}
 use Rattle.cd.specs.Diagrams.{limit}
 use Rattle.cd.proofs.Arrays.{length-of-image}
 use Rattle.reflections.specs.declared.Matrix.{Matrix}
+use Rattle.lent.specs.Shown.{squareLength}
 use Rattle.lent.proofs.Copying.{Stored, stored-none, stored-more, stored-length, stored-all}
 use Rattle.lent.proofs.put_matrices.Statement.{statement}
 use Rattle.lent.proofs.put_matrices.Tie as tie
 
 abbrev Inv-loop : tie.InvT-loop
-Inv-loop out₀ of i₀ out i = (i ≤ limit) × (length of ≡ limit) × Stored (λ (m : Matrix). m .at) 81 0 of i out₀ out
+Inv-loop out₀ of i₀ out i = (i ≤ limit) × (length of ≡ limit) × Stored (λ (m : Matrix). m .at) squareLength 0 of i out₀ out
 
 abbrev μ-loop : tie.MeasureT-loop
 μ-loop out₀ of i₀ out i = limit - i
 
 loop-holds : tie.Need-loop-holds Inv-loop μ-loop
-loop-holds c = (search needs, search (needs, length-of-image), stored-none _ 81 0 _ _)
+loop-holds c = (search needs, search (needs, length-of-image), stored-none _ squareLength 0 _ _)
 
 mul-put-matrix : tie.Need-mul-put-matrix Inv-loop μ-loop
 mul-put-matrix c = search needs
@@ -46,7 +47,7 @@ loop-again c =
     let l = p .before .before .before .before in
     let h : l .loop .i < length (l .before .before .args .t2) = omega (arith, l .loop .inv .1) in
     let e = p .put-matrix .ensures in
-    (search needs, l .loop .inv .1, stored-more _ 81 0 _ _ _ _ _ _ _ h (e .0) (omega arith) (l .loop .inv .2) (e .1))
+    (search needs, l .loop .inv .1, stored-more _ squareLength 0 _ _ _ _ _ _ _ h (e .0) (omega arith) (l .loop .inv .2) (e .1))
 
 same-length : tie.Need-same-length Inv-loop μ-loop
 same-length c = stored-length _ _ _ _ _ _ _ (c .before .loop .inv .2)

@@ -3,6 +3,7 @@ use mathlib.Core.Path.{_≡_}
 use native.Mathlib.Omega.{arith}
 use lib.ListN.{length}
 use borrow.Author.Needs.{needs}
+use Rattle.lent.specs.Shown.{squareLength}
 use Rattle.lent.proofs.put_matrix.Statement.{statement}
 use Rattle.lent.proofs.put_matrix.Tie as tie
 
@@ -12,7 +13,7 @@ slice-aggregate-put c = search needs
 put-requires : tie.Need-put-requires
 put-requires c κs =
     let a = c .before .before .before .before in
-    let long : length (a .args .m .at) ≡ 81 = search needs in
+    let long : length (a .args .m .at) ≡ squareLength = search needs in
     omega (arith, long, a .pre)
 
 same-length : tie.Need-same-length

@@ -4,7 +4,7 @@ use native.Mathlib.Omega.{arith}
 use lib.ListN.{length}
 use borrow.Author.Needs.{needs}
 use Rattle.cd.proofs.Arrays.{length-of-image}
-use Rattle.lent.specs.Shown.{numbersOf}
+use Rattle.lent.specs.Shown.{diagramLength, numbersOf}
 use Rattle.lent.proofs.Showing.{lends-refusal, lends-short, lends-shown, numbers-long}
 use Rattle.lent.proofs.show_diagram.Statement.{statement}
 use Rattle.lent.proofs.show_diagram.Tie as tie
@@ -15,7 +15,7 @@ enum-told c = search needs
 refuse-requires : tie.Need-refuse-requires
 refuse-requires c κs = search needs
 
-long : (c : tie.After-enum-told) → length (numbersOf (c .before .before .before .args .r .cd)) ≡ 153
+long : (c : tie.After-enum-told) → length (numbersOf (c .before .before .before .args .r .cd)) ≡ diagramLength
 long c = numbers-long _ (search (needs, length-of-image)) (search (needs, length-of-image))
 
 returns : tie.Need-returns

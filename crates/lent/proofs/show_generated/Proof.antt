@@ -1,5 +1,6 @@
 -- `lent::show_generated` meets its contract: refused, too short, shown (proofs/Showing.antt). Assumes nothing.
 use mathlib.Core.List.{[], _∷_, _++_}
+use Prim.Native.Nat.{_+_}
 use mathlib.Core.Path.{_≡_, refl, ap, _∙_}
 use native.Mathlib.Omega.{arith}
 use lib.ListN.{length, set, length-append}
@@ -21,7 +22,7 @@ long : (c : tie.After-enum-told) → length (c .before .before .before .args .s 
 long c = search needs
 
 -- with the circumradius
-longer : (c : tie.After-enum-told) → let g = c .before .before .before .args .s .generator in length (g .at ++ (g .radius ∷ [])) ≡ 10
+longer : (c : tie.After-enum-told) → let g = c .before .before .before .args .s .generator in length (g .at ++ (g .radius ∷ [])) ≡ limit + 1
 longer c = let g = c .before .before .before .args .s .generator in length-append (g .at) (g .radius ∷ []) ∙ omega (arith, long c)
 
 returns : tie.Need-returns

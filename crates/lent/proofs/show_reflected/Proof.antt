@@ -4,7 +4,7 @@ use native.Mathlib.Omega.{arith}
 use lib.ListN.{length}
 use borrow.Author.Needs.{needs}
 use Rattle.cd.specs.Arrays.{padded}
-use Rattle.lent.specs.Shown.{entries}
+use Rattle.lent.specs.Shown.{reflectionsLength, entries}
 use Rattle.lent.proofs.Showing.{lends-refusal, lends-short, lends-shown}
 use Rattle.lent.proofs.show_reflected.Statement.{statement}
 use Rattle.lent.proofs.show_reflected.Tie as tie
@@ -15,7 +15,7 @@ enum-told c = search needs
 refuse-requires : tie.Need-refuse-requires
 refuse-requires c κs = search needs
 
-long : (c : tie.After-enum-told) → length (entries (c .before .before .before .args .s .reflections .of)) ≡ 729
+long : (c : tie.After-enum-told) → length (entries (c .before .before .before .args .s .reflections .of)) ≡ reflectionsLength
 long c = c .before .before .before .pre
 
 returns : tie.Need-returns

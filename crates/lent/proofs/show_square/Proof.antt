@@ -4,6 +4,7 @@ use native.Mathlib.Omega.{arith}
 use lib.ListN.{length}
 use borrow.Author.Needs.{needs}
 use Rattle.cd.specs.Arrays.{padded}
+use Rattle.lent.specs.Shown.{squareLength}
 use Rattle.lent.proofs.Showing.{lends-refusal, lends-short, lends-shown}
 use Rattle.lent.proofs.show_square.Statement.{statement}
 use Rattle.lent.proofs.show_square.Tie as tie
@@ -14,7 +15,7 @@ enum-told c = search needs
 refuse-requires : tie.Need-refuse-requires
 refuse-requires c κs = search needs
 
-long : (c : tie.After-enum-told) → length (c .before .before .before .args .s .at) ≡ 81
+long : (c : tie.After-enum-told) → length (c .before .before .before .args .s .at) ≡ squareLength
 long c = search needs
 
 returns : tie.Need-returns

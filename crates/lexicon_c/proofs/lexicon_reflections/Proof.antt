@@ -1,4 +1,4 @@
--- `lexicon_c::lexicon_reflections` meets its contract: nine reflections have 729 entries (proofs/Entries.antt). Assumes nothing.
+-- `lexicon_c::lexicon_reflections` meets its contract: how many entries reflections have (proofs/Entries.antt). Assumes nothing.
 use mathlib.Core.Path.{ap, _∙_}
 use lib.ListN.{length}
 use borrow.Author.Needs.{needs}
