@@ -23,7 +23,7 @@ answer-few (Refused r) s h = omega arith
 pub read-few : (s : List ℕ) (r : Read) → r ≡ answer (read s) → r .cd .count ≤ limit
 read-few s r h = rw h (answer-few (read s) s refl)
 
-apart : (e : CdError) → said.Accepted ≡ said.Refused e → ⊥
+pub apart : (e : CdError) → said.Accepted ≡ said.Refused e → ⊥
 apart e h = let z : _≡_ {A = ℕ} 0 1 = (cc) in omega arith
 
 pub mark-accepted : (x : Reading) (r : Read) (b : Bool) → r ≡ answer x → r .answer ≡ said.Accepted
@@ -50,7 +50,7 @@ unfolding answer
 accepts (Accepted ns es) r h a = record { ns = ns; es = es; is = refl; held = ap (λ (y : Read). y .cd) h }
 accepts (Refused e) r h a = absurd (apart e (sym a ∙ ap (λ (y : Read). y .answer) h))
 
-alike : (d e : CdError) → said.Refused d ≡ said.Refused e → d ≡ e
+pub alike : (d e : CdError) → said.Refused d ≡ said.Refused e → d ≡ e
 alike d e h = cc
 
 pub refuses : (x : Reading) (r : Read) (e : CdError) → r ≡ answer x → r .answer ≡ said.Refused e → x ≡ Refused e

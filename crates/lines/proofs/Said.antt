@@ -3,11 +3,11 @@ use Prim.Native.Nat.{ℕ}
 use mathlib.Core.Bool.{Bool}
 use mathlib.Core.List.{List, [], _∷_, _++_}
 use mathlib.Core.Path.{_≡_, sym, ap, _∙_}
-use native.Mathlib.Omega.{arith}
 use Rattle.float.specs.Pick.{pick}
 use Rattle.cd.specs.Diagrams.{cdOf}
 use Rattle.cd.specs.Refusals.{numberOf}
 use Rattle.cd.specs.declared.CdError.{CdError}
+use Rattle.lexicon.proofs.Answers.{apart, alike}
 use Rattle.parse.specs.Reading.{Reading, Accepted, Refused, answer}
 use Rattle.parse.specs.declared.Answer.the-variants as said
 use Rattle.parse.specs.declared.Read.{Read}
@@ -15,12 +15,6 @@ use Rattle.scan.specs.Ascii.{ascii}
 use Rattle.lines.specs.Answers.{spaced, answerOf}
 use Rattle.lines.specs.Written.{Adds}
 use Rattle.lines.proofs.Writing.{adds-then}
-
-apart : (e : CdError) → said.Accepted ≡ said.Refused e → ⊥
-apart e h = let z : _≡_ {A = ℕ} 0 1 = (cc) in omega arith
-
-alike : (d e : CdError) → said.Refused d ≡ said.Refused e → d ≡ e
-alike d e h = cc
 
 says-ok : (r : Read) (m : Bool) (x : Reading) → r ≡ answer x → r .answer ≡ said.Accepted
     → answerOf x m ≡ ascii "ok" ++ spaced (r .cd .count ∷ r .cd .edges ∷ pick m 1 0 ∷ [])
