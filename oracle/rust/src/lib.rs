@@ -3,9 +3,13 @@
 
 include!(concat!(env!("OUT_DIR"), "/miratope.rs"));
 
+pub mod diagrams;
+pub mod families;
+pub mod limits;
 pub mod lines;
 
-use cox::cd::{Cd, CdError, Node};
+use cox::cd::{Cd, CdError};
+use diagrams::{Diagram, DIAGRAM};
 
 /// The type names of geometry.rs. The file itself leans on the rest of miratope-core.
 pub mod geometry {
@@ -50,17 +54,22 @@ impl CdError {
         }
     }
 
-    /// Its number and fields, then zeros: the answer of include/lexicon.h.
-    pub fn answer(self) -> [usize; 4] {
-        let number = self.number() as usize;
+    /// Document 01's fields of the refusal, in its order, then zeros; and how many they are.
+    pub fn fields(self) -> ([usize; 3], usize) {
         match self {
             Self::MismatchedParenthesis { pos }
             | Self::UnexpectedEnding { pos }
             | Self::ParseError { pos }
-            | Self::InvalidSymbol { pos } => [number, pos, 0, 0],
-            Self::InvalidEdge { num, den, pos } => [number, num as usize, den as usize, pos],
-            Self::RepeatEdge { a, b } => [number, a, b, 0],
+            | Self::InvalidSymbol { pos } => ([pos, 0, 0], 1),
+            Self::InvalidEdge { num, den, pos } => ([num as usize, den as usize, pos], 3),
+            Self::RepeatEdge { a, b } => ([a, b, 0], 2),
         }
+    }
+
+    /// Its number and fields, then zeros: the answer of include/lexicon.h.
+    pub fn answer(self) -> [usize; 4] {
+        let ([a, b, c], _) = self.fields();
+        [self.number() as usize, a, b, c]
     }
 }
 
@@ -84,12 +93,12 @@ pub unsafe extern "C" fn rust_parse(text: *const u8, len: usize) -> u32 {
 /// As for `rust_parse`; `out` points at `room` numbers, 153 or more, `answer` at four, and the text has at most nine nodes.
 #[no_mangle]
 pub unsafe extern "C" fn rust_read(text: *const u8, len: usize, out: *mut u64, room: usize, answer: *mut usize) -> usize {
-    let out = std::slice::from_raw_parts_mut(out, room);
+    assert!(room >= DIAGRAM);
     let answer = std::slice::from_raw_parts_mut(answer, 4);
     let text = std::slice::from_raw_parts(text, len);
     let told = match Cd::parse(std::str::from_utf8_unchecked(text)) {
         Ok(cd) => {
-            put_diagram(&mut out[..153], &cd);
+            (*out.cast::<Diagram>()).lay_out(&cd);
             [0, cd.node_count(), cd.edge_count(), usize::from(cd.minimal())]
         }
         Err(e) => e.answer(),
@@ -152,28 +161,8 @@ unsafe fn diagram(text: *const u8, len: usize) -> Option<Cd> {
     Cd::parse(std::str::from_utf8_unchecked(std::slice::from_raw_parts(text, len))).ok()
 }
 
-fn put_diagram(out: &mut [u64], cd: &Cd) {
-    let (nodes, pairs) = out.split_at_mut(18);
-    for place in nodes.chunks_exact_mut(2) {
-        place.copy_from_slice(&[1, 0]);
-    }
-    for (node, place) in cd.node_iter().zip(nodes.chunks_exact_mut(2)) {
-        place.copy_from_slice(&match node {
-            Node::Unringed => [1, 0],
-            Node::Ringed(value) => [2, value.to_bits()],
-            Node::Snub(value) => [3, value.to_bits()],
-        });
-    }
-    pairs.fill(0);
-    for (rank, edge) in cd.raw_edges().iter().enumerate() {
-        let (a, b) = (edge.source().index(), edge.target().index());
-        let (i, j) = (a.min(b), a.max(b));
-        let at = 3 * (j * (j + 1) / 2 + i);
-        pairs[at..at + 3].copy_from_slice(&[rank as u64 + 1, edge.weight.num.into(), edge.weight.den.into()]);
-    }
-}
-
-fn put_matrix(out: &mut [f64], dim: usize, matrix: &geometry::Matrix<f64>) {
+/// Row r of column c goes to `out[9 * c + r]`.
+pub fn put_matrix(out: &mut [f64], dim: usize, matrix: &geometry::Matrix<f64>) {
     for (column, out) in matrix.as_slice().chunks(dim.max(1)).zip(out.chunks_mut(9)) {
         out[..dim].copy_from_slice(column);
     }

@@ -10,12 +10,11 @@
 //! * `?` where the Rust has no answer: on a text as `reading` prints it; an infinite or nan circumradius (16); a
 //!   family that it lacks or panics on, or beyond nine nodes (17).
 
-use std::{fmt::Write, io, ops::Index, panic};
+use std::{fmt::Write, io, ops::Index};
 
 use miratope::{
     cox::{cd::Cd, Cox},
-    geometry::Matrix,
-    lines,
+    families, lines,
 };
 
 fn main() -> io::Result<()> {
@@ -48,18 +47,10 @@ fn of_diagram(kind: u8, cd: &Cd) -> Option<String> {
 fn family(line: &[u8]) -> Option<Cox<f64>> {
     let (&letter, size) = line.split_first()?;
     let size = std::str::from_utf8(size.strip_prefix(b" ")?).ok()?.parse().ok()?;
-    let make: fn(usize) -> Cox<f64> = match letter {
-        b'A' => Cox::a,
-        b'B' => Cox::b,
-        b'D' => Cox::d,
-        b'E' => Cox::e,
-        b'H' => Cox::h,
-        _ => return None,
-    };
     if size > 9 {
         return None;
     }
-    panic::catch_unwind(|| make(size)).ok()
+    families::family(letter, size)
 }
 
 fn matrix(cox: &Cox<f64>) -> String {
@@ -105,12 +96,8 @@ fn reflections(cox: &Cox<f64>) -> String {
     line
 }
 
-/// `Cox::normals` doesn't say where it stops. A leading minor has the first columns of the whole: the first minor that
-/// has no mirrors ends in the column.
 fn no_mirrors(cox: &Cox<f64>) -> String {
-    let minor = |dim| Cox::new(Matrix::from_fn(dim, dim, |row, column| cox[(row, column)]));
-    let column = (0..cox.dim()).find(|&i| minor(i + 1).normals().is_none()).unwrap();
-    format!("no 15 {column}")
+    format!("no 15 {}", families::column_without_mirrors(cox).unwrap())
 }
 
 fn put_matrix(line: &mut String, dim: usize, entries: &impl Index<(usize, usize), Output = f64>) {

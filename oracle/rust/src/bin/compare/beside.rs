@@ -1,0 +1,259 @@
+//! `compare texts`: on each text the Rust and the port side by side, all calls, all fields, all places of the buffers.
+
+use std::process::ExitCode;
+
+use miratope::{
+    cox::{cd::Cd, Cox},
+    diagrams::{Diagram, LIMIT},
+    families,
+};
+
+use crate::{
+    dice::mix,
+    expected::{self, Reading},
+    figures::{Figure, RECORD},
+    port::{bits, short, Call, Port, Want, SPARE, SQUARE},
+    records,
+    run::{self, Tally, Work},
+    texts::Texts,
+};
+
+// Places of the tally.
+const ACCEPTED: usize = 0;
+const REFUSED: usize = 10;
+const DEPARTED: usize = 28;
+const MIRRORS: usize = 76;
+const CROWDED: usize = 77;
+const INFINITE: usize = 78;
+const RECORDS: usize = 79;
+const FAMILIES: usize = 80;
+const LONG: usize = 81;
+
+/// The refusals in which the port departs from the Rust, as docs/DIFFERENCES.md has them.
+const MEANINGS: [(usize, &str); 7] = [
+    (1, "more than 255 bytes"),
+    (2, "a byte of 128 or more"),
+    (3, "`(` at the end"),
+    (4, "spaces at the end"),
+    (9, "a literal outside the range"),
+    (10, "a tenth node"),
+    (11, "a missing reference"),
+];
+
+fn labels() -> Vec<String> {
+    let mut labels: Vec<String> = (0..=LIMIT).map(|nodes| format!("accepted, {nodes} nodes")).collect();
+    labels.extend((0..DEPARTED - REFUSED).map(|number| format!("refused with {number}")));
+    for number in 0..(MIRRORS - DEPARTED) / 4 {
+        let meaning = MEANINGS.iter().find(|row| row.0 == number).map_or("", |row| row.1);
+        let row = |seen| format!("  with {number} for {meaning}, where the Rust {seen}");
+        labels.extend(["reads it", "refuses otherwise", "panics", "takes no such bytes"].map(row));
+    }
+    labels.push("with mirrors".into());
+    labels.push("15, no mirrors".into());
+    labels.push("16, an infinite length, where the Rust's circumradius is infinite or nan".into());
+    labels.push("records written and read back".into());
+    labels.push("families".into());
+    labels.push("of the accepted texts those of 200 bytes or more".into());
+    labels
+}
+
+pub fn run(seed: u64, count: u64, threads: usize) -> ExitCode {
+    let texts = Texts::new(seed);
+    let all = texts.fixed() + count;
+    println!("{} fixed texts, {count} by chance, of seed {seed}; all families", texts.fixed());
+    // The last index is that of the families.
+    run::run(all + 1, threads, &labels(), || Beside {
+        port: Port::new(),
+        texts: &texts,
+        all,
+        text: vec![],
+        other: vec![],
+    })
+}
+
+struct Beside<'a> {
+    port: Port,
+    texts: &'a Texts,
+    all: u64,
+    text: Vec<u8>,
+    other: Vec<u8>,
+}
+
+impl Work for Beside<'_> {
+    fn one(&mut self, index: u64, tally: &mut Tally) -> Result<(), String> {
+        if index == self.all {
+            return self.families(tally);
+        }
+        let mut text = std::mem::take(&mut self.text);
+        self.texts.put(index, &mut text, &mut self.other);
+        let result = self.text(&text, tally);
+        self.text = text;
+        result
+    }
+
+    fn name(&mut self, index: u64) -> String {
+        if index == self.all {
+            return "families".into();
+        }
+        self.texts.put(index, &mut self.text, &mut self.other);
+        format!("\"{}\"", self.text.escape_ascii())
+    }
+}
+
+impl Beside<'_> {
+    fn text(&mut self, text: &[u8], tally: &mut Tally) -> Result<(), String> {
+        let window = hash(text);
+        match expected::reading(text) {
+            Reading::Accepted(cd) => {
+                tally.count(ACCEPTED + cd.node_count());
+                if text.len() >= 200 {
+                    tally.count(LONG);
+                }
+                self.accepted(text, &cd, window, tally)
+            }
+            Reading::Refused(answer, departed) => {
+                tally.count(REFUSED + answer[0]);
+                if let Some(seen) = departed {
+                    tally.count(DEPARTED + 4 * answer[0] + seen as usize);
+                }
+                self.refused(text, answer, window)
+            }
+        }
+    }
+
+    fn refused(&mut self, text: &[u8], answer: [usize; 4], window: usize) -> Result<(), String> {
+        let want = Want { answer, out: &[] };
+        self.port.check(Call::Read(text), want, turned(window, 0))?;
+        self.port.check(Call::Matrix(text), want, turned(window, 1))?;
+        self.port.check(Call::Mirrors(text), want, turned(window, 2))?;
+        self.port.check(Call::Generator(text), want, turned(window, 3))?;
+        self.port.check(Call::Reflections(text), want, turned(window, 4))?;
+        let len = short(RECORD, turned(window, 5)).unwrap_or(RECORD + window % SPARE);
+        records::refused(&mut self.port, text, len, answer, window)
+    }
+
+    fn accepted(&mut self, text: &[u8], cd: &Cd, window: usize, tally: &mut Tally) -> Result<(), String> {
+        let nodes = cd.node_count();
+        let diagram = Diagram::of(cd);
+        let answer = [0, nodes, cd.edge_count(), cd.minimal().into()];
+        self.port.check(Call::Read(text), Want { answer, out: &diagram.0 }, turned(window, 0))?;
+
+        let cox = cd.cox();
+        let answer = [0, nodes, 0, 0];
+        let matrix = expected::matrix(&cox);
+        self.port.check(Call::Matrix(text), Want { answer, out: bits(&matrix) }, turned(window, 1))?;
+        match expected::mirrors(&cox) {
+            Ok(mirrors) => {
+                tally.count(MIRRORS);
+                let want = Want { answer, out: bits(&mirrors) };
+                self.port.check(Call::Mirrors(text), want, turned(window, 2))?;
+                self.fitting(text, cd, &cox, window, tally)?;
+            }
+            Err(column) => {
+                tally.count(CROWDED);
+                self.crowded(text, column, window)?;
+            }
+        }
+        self.record(text, cd, window, tally)
+    }
+
+    /// The generator and the reflections of a diagram that has mirrors.
+    fn fitting(
+        &mut self,
+        text: &[u8],
+        cd: &Cd,
+        cox: &Cox<f64>,
+        window: usize,
+        tally: &mut Tally,
+    ) -> Result<(), String> {
+        let answer = [0, cd.node_count(), 0, 0];
+        let generator = expected::generator(cd);
+        let want = match &generator {
+            Ok(generator) => Want { answer, out: bits(generator) },
+            Err(node) => {
+                tally.count(INFINITE);
+                Want { answer: [16, *node, 0, 0], out: &[] }
+            }
+        };
+        self.port.check(Call::Generator(text), want, turned(window, 3))?;
+        let reflections = expected::reflections(cox);
+        self.port.check(Call::Reflections(text), Want { answer, out: bits(&reflections) }, turned(window, 4))
+    }
+
+    /// The three calls that refuse a diagram without mirrors.
+    fn crowded(&mut self, text: &[u8], column: usize, window: usize) -> Result<(), String> {
+        let want = Want { answer: [15, column, 0, 0], out: &[] };
+        self.port.check(Call::Mirrors(text), want, turned(window, 2))?;
+        self.port.check(Call::Generator(text), want, turned(window, 3))?;
+        self.port.check(Call::Reflections(text), want, turned(window, 4))
+    }
+
+    /// Of a share of the texts also the record: the port tries all numberings.
+    fn record(&mut self, text: &[u8], cd: &Cd, window: usize, tally: &mut Tally) -> Result<(), String> {
+        const ONE_IN: [usize; LIMIT + 1] = [1, 1, 1, 1, 1, 2, 8, 1 << 7, 1 << 11, 1 << 15];
+        let window = turned(window, 6);
+        if window >> 20 & (ONE_IN[cd.node_count()] - 1) != 0 {
+            return Ok(());
+        }
+        tally.count(RECORDS);
+        let bytes = records::written(&mut self.port, text, &Figure::of(cd), window)?;
+        records::read_back(&mut self.port, &bytes, window)?;
+        match short(RECORD, window) {
+            Some(len) => records::refused(&mut self.port, text, len, [12, 0, 0, 0], window),
+            None => Ok(()),
+        }
+    }
+
+    /// Every letter and small size, and sizes beyond all.
+    fn families(&mut self, tally: &mut Tally) -> Result<(), String> {
+        for letter in 0..=255 {
+            for size in (0..=12).chain([255, 256, 1 << 32, (1 << 32) + 3, usize::MAX - 1, usize::MAX]) {
+                tally.count(FAMILIES);
+                let what = self.family(letter, size, turned(size, letter.into()));
+                what.map_err(|what| format!("letter {letter}, size {size}: {what}"))?;
+            }
+        }
+        Ok(())
+    }
+
+    fn family(&mut self, letter: u8, size: usize, window: usize) -> Result<(), String> {
+        // "Least sizes A 1, B 2, H 2, D 3, E 4; greatest 9."
+        let least = [(b'A', 1), (b'B', 2), (b'D', 3), (b'E', 4), (b'H', 2)];
+        let known = least.iter().any(|&(known, least)| known == letter && (least..=LIMIT).contains(&size));
+        if !known {
+            // Where the Rust is asked, it panics, or gives a family of more than nine nodes.
+            assert!(size > LIMIT || families::family(letter, size).is_none());
+            let want = Want { answer: [17, 0, 0, 0], out: &[] };
+            self.port.check(Call::FamilyMatrix(letter, size), want, window)?;
+            return self.port.check(Call::FamilyMirrors(letter, size), want, window);
+        }
+        let cox = families::family(letter, size).unwrap();
+        let mut matrix = [0.0; SQUARE];
+        // "past the size it goes on as that of a longer family"
+        expected::put_entries(&mut matrix, &families::family(letter, LIMIT).unwrap());
+        expected::put_entries(&mut matrix, &cox);
+        let answer = [0, size, 0, 0];
+        self.port.check(Call::FamilyMatrix(letter, size), Want { answer, out: bits(&matrix) }, window)?;
+        match expected::mirrors(&cox) {
+            Ok(mirrors) => {
+                self.port.check(Call::FamilyMirrors(letter, size), Want { answer, out: bits(&mirrors) }, window)
+            }
+            Err(column) => {
+                let want = Want { answer: [15, column, 0, 0], out: &[] };
+                self.port.check(Call::FamilyMirrors(letter, size), want, window)
+            }
+        }
+    }
+}
+
+/// The window of a text's pattern.
+fn hash(text: &[u8]) -> usize {
+    let stirred =
+        text.iter().fold(text.len() as u64, |word, &byte| (word ^ u64::from(byte)).wrapping_mul(0x0000_0100_0000_01b3));
+    mix(stirred) as usize
+}
+
+/// Another window for each call, so that not all of a text's calls get short buffers.
+fn turned(window: usize, call: usize) -> usize {
+    mix((window as u64).wrapping_add(call as u64)) as usize
+}

@@ -1,0 +1,130 @@
+//! The texts at document 01's limits, the same in every run: each limit one short, met and one over.
+
+use crate::spelling::{push_number, push_reference};
+
+/// Document 01's "Texts to try", docs/DIFFERENCES.md's, and a few beside them.
+#[rustfmt::skip]
+const NAMED: [&str; 46] = [
+    "", "*a", "x5/3/2o", "x4/2o", "x2*c", "x3*c", "x3/o", "x3", "x ", "(", "()", "(nan)", "x3_", "x4294967296o",
+    "ooooooooo", "oooooooooo", "x4o", "o4x", "x6/2o", "(0)", "(-0)", "x4o3o", "x3*a", "x1o", "x3o3*a", "((", "(1",
+    "x\t", "*a ", "*a3*a", "*-b3x", "x2*-c", "(1e23)", "(0e23)", "(1e0001)", "(1e999)", "(1e23)_", "\u{a0}x",
+    "x\u{85}x", "(\u{e9})", "(1\u{e9})", "\u{e9}", "x3\u{e9}", "(\u{e9}1)", "x4o4o", "(inf)3o",
+];
+
+pub fn all() -> Vec<Vec<u8>> {
+    let mut texts: Vec<Vec<u8>> = NAMED.iter().map(|text| text.as_bytes().to_vec()).collect();
+    edges(&mut texts);
+    literals(&mut texts);
+    words(&mut texts);
+    nodes(&mut texts);
+    references(&mut texts);
+    lengths(&mut texts);
+    texts
+}
+
+/// Every edge of up to three parts, each at a limit, before every kind of byte.
+fn edges(texts: &mut Vec<Vec<u8>>) {
+    const PARTS: [&str; 11] =
+        ["", "0", "1", "2", "3", "4", "03", "2147483648", "4294967294", "4294967295", "4294967296"];
+    let mut runs: Vec<String> = PARTS.iter().map(|part| part.to_string()).collect();
+    for two in 0..121 {
+        runs.push(format!("{}/{}", PARTS[two / 11], PARTS[two % 11]));
+        runs.extend(PARTS.iter().map(|part| format!("{}/{}/{part}", PARTS[two / 11], PARTS[two % 11])));
+    }
+    for run in &runs {
+        texts.extend(["o", " o", "*a", "(1)", ""].map(|end| format!("x{run}{end}").into_bytes()));
+    }
+    for byte in 0..=255 {
+        texts.extend([&b"x3"[..], b"x5/2", b"x3/", b"x3 "].map(|start| [start, &[byte, b'o']].concat()));
+    }
+}
+
+/// 14 to 16 digits with the point at every place, exponents of one to four digits, all powers about −22 and 22.
+fn literals(texts: &mut Vec<Vec<u8>>) {
+    for digits in ["0", "1", "9", "007", "99999999999999", "999999999999999", "9999999999999999", "0000000000000001"] {
+        for point in 0..=digits.len() + 1 {
+            let after = digits.len().saturating_sub(point) as i64;
+            let number = match point {
+                point if point > digits.len() => digits.to_string(),
+                point => format!("{}.{}", &digits[..point], &digits[point..]),
+            };
+            for power in (-24..=-20_i64).chain(-1..=1).chain(20..=24) {
+                let exponent = power + after;
+                let sign = if exponent < 0 { "-" } else { "" };
+                for width in 1..=4 {
+                    texts.push(format!("({number}e{sign}{:0width$})3o", exponent.abs()).into_bytes());
+                }
+            }
+            texts.extend(["", "+", "-"].map(|sign| format!("({sign}{number})").into_bytes()));
+        }
+    }
+}
+
+/// Words and numbers that are none, or nearly.
+#[rustfmt::skip]
+const WORDS: [&str; 32] = [
+    "inf", "INF", "Infinity", "iNfInItY", "infinit", "infinityy", "in", "i", "nan", "NaN", "nanx", "na", ".", "..",
+    "1..2", "1.2.3", "e", "e5", ".e5", "1e", "1e+", "1e-", "1e5.", "1e5e5", "1 ", " 1", "--1", "+-1", "1-", "0x1",
+    "1_0", "1f",
+];
+
+fn words(texts: &mut Vec<Vec<u8>>) {
+    for word in WORDS {
+        for sign in ["", "+", "-", " "] {
+            texts.extend(["", "o3"].map(|start| format!("{start}({sign}{word})").into_bytes()));
+            texts.push(format!("x3({sign}{word})3o").into_bytes());
+        }
+    }
+}
+
+/// Eight to eleven nodes, then what may be at fault later, or sooner.
+fn nodes(texts: &mut Vec<Vec<u8>>) {
+    for count in 8..=11 {
+        for node in ["o", "x3", "(1)", "(1e23)", "s "] {
+            for end in ["", "x", "_", "(", " ", "3", "(1", "(nan)", "(1e23)", "x3*z", "*a3*-z", "x1x", "o3*a3*a"] {
+                texts.push((node.repeat(count) + end).into_bytes());
+                texts.push(("o".repeat(count - 1) + node + end).into_bytes());
+            }
+        }
+    }
+}
+
+/// Every reference, from both ends, before and behind zero to nine nodes, with and without an edge.
+fn references(texts: &mut Vec<Vec<u8>>) {
+    for count in 0..=9 {
+        for k in 0..26 {
+            for (from_end, edge) in [(false, "3"), (true, "3"), (false, "2"), (true, "2"), (false, ""), (true, "")] {
+                let mut reference = Vec::new();
+                push_reference(&mut reference, from_end, k);
+                let nodes = vec![b'x'; count];
+                texts.push([&nodes, edge.as_bytes(), &reference].concat());
+                texts.push([&reference, edge.as_bytes(), &nodes].concat());
+                texts.push([&reference, edge.as_bytes(), b"*a2*b3*a", &nodes].concat());
+            }
+        }
+    }
+}
+
+/// 253 to 258 bytes of spaces, of twos, of digits, and of a literal, that end well or do not.
+fn lengths(texts: &mut Vec<Vec<u8>>) {
+    for length in 253..=258_usize {
+        for end in ["x", "x3o", "(", "_", "x3", "x ", "\u{e9}", "x3*c"] {
+            for (start, filler) in
+                [("", " "), ("x", "\n"), ("x", "2*a"), ("x", "3"), ("x0", "0"), ("(", "0"), ("x3/", "3/")]
+            {
+                let mut text = start.as_bytes().to_vec();
+                while text.len() + filler.len() + end.len() <= length {
+                    text.extend(filler.bytes());
+                }
+                text.extend(end.bytes());
+                let missing = length.saturating_sub(text.len());
+                text.splice(0..0, std::iter::repeat_n(b' ', missing));
+                texts.push(text);
+            }
+        }
+        let mut zeros = vec![b'0'; length - 2];
+        zeros[0] = b'x';
+        push_number(&mut zeros, 3);
+        texts.push([&zeros[..], b"o"].concat());
+    }
+}

@@ -1,0 +1,46 @@
+//! Compares the port, the library for C (include/lexicon.h), with the unchanged Rust and with document 01, in one process.
+//!
+//! * `compare texts SEED COUNT`: fixed texts, COUNT by chance, and all families, beside the Rust (beside.rs);
+//! * `compare pairs SEED COUNT`: COUNT figures and their records (pairs.rs).
+//!
+//! `--threads N` takes N threads in place of two; what is compared is the same. Exit status: 0 nothing differs, 1 something
+//! does, 2 it was called otherwise.
+
+mod beside;
+mod chance;
+mod dice;
+mod expected;
+mod figures;
+mod grammar;
+mod lengths;
+mod limit_texts;
+mod pairs;
+mod port;
+mod records;
+mod run;
+mod spelling;
+mod texts;
+
+use std::{env, process::ExitCode};
+
+fn main() -> ExitCode {
+    let args: Vec<String> = env::args().collect();
+    let Some((mode, seed, count, threads)) = parsed(&args[1..]) else {
+        eprintln!("usage: compare texts|pairs SEED COUNT [--threads N]");
+        return ExitCode::from(2);
+    };
+    let code = if mode == "texts" { beside::run(seed, count, threads) } else { pairs::run(seed, count, threads) };
+    println!("to repeat: {} {mode} {seed} {count}", args[0]);
+    code
+}
+
+fn parsed(args: &[String]) -> Option<(&str, u64, u64, usize)> {
+    let (mode, rest) = args.split_first()?;
+    let threads = match rest {
+        [_, _] => 2,
+        [_, _, flag, threads] if flag == "--threads" => threads.parse().ok().filter(|&threads| threads > 0)?,
+        _ => return None,
+    };
+    let known = mode == "texts" || mode == "pairs";
+    Some((mode.as_str(), rest[0].parse().ok()?, rest[1].parse().ok()?, threads)).filter(|_| known)
+}

@@ -1,0 +1,187 @@
+//! `compare pairs`: records at scale. Two spellings of a figure must get one record; a figure changed in one place another,
+//! unless it is the same renumbered; a record must be read back to its figure; a changed record must be refused, unless it
+//! is that of another figure.
+
+use std::process::ExitCode;
+
+use miratope::diagrams::LIMIT;
+
+use crate::{
+    chance,
+    dice::Dice,
+    figures::{Figure, Numbering, PLAIN, RECORD},
+    port::{Call, Port, Want},
+    records,
+    run::{self, Tally, Work},
+    spelling,
+};
+
+// Places of the tally.
+const SPELLED: usize = 0;
+const SAME: usize = 10;
+const APART: usize = 11;
+const DAMAGED_READ: usize = 12;
+const DAMAGED_REFUSED: usize = 13;
+const WRONG_LENGTH: usize = 14;
+const TOO_LONG: usize = 15;
+
+fn labels() -> Vec<String> {
+    let mut labels: Vec<String> =
+        (0..=LIMIT).map(|nodes| format!("figures of {nodes} nodes in two spellings")).collect();
+    labels.push("changed in one place, yet the same renumbered".into());
+    labels.push("changed in one place, filed apart".into());
+    labels.push("records changed in a byte or in the numbering, yet records".into());
+    labels.push("records changed in a byte or in the numbering, refused with 14".into());
+    labels.push("records of another length, refused with 13".into());
+    labels.push("changed in one place, too long to write".into());
+    labels
+}
+
+pub fn run(seed: u64, count: u64, threads: usize) -> ExitCode {
+    println!("{count} figures by chance, of seed {seed}");
+    run::run(count, threads, &labels(), || Pairs { port: Port::new(), seed })
+}
+
+struct Pairs {
+    port: Port,
+    seed: u64,
+}
+
+impl Work for Pairs {
+    fn one(&mut self, index: u64, tally: &mut Tally) -> Result<(), String> {
+        let dice = &mut Dice::new(self.seed, index);
+        let (figure, plain) = loop {
+            let figure = any_figure(dice);
+            if let Some(plain) = spelling::short_spelling(dice, &figure, 1000) {
+                break (figure, plain);
+            }
+        };
+        tally.count(SPELLED + figure.count);
+        let bytes = self.filed(dice, &figure, plain)?;
+        if let Some(odd) = spelling::short_spelling(dice, &figure, 5) {
+            let again = self.filed(dice, &figure, odd)?;
+            if again != bytes {
+                return Err(format!(
+                    "two spellings, two records: {} and {}",
+                    records::shown(&bytes),
+                    records::shown(&again)
+                ));
+            }
+        }
+        if figure.count <= 5 && dice.one_in(16) && figure.smallest_of_all() != bytes {
+            return Err(format!("of all renumberings another has a smaller layout than {}", records::shown(&bytes)));
+        }
+        if figure.count > 0 {
+            self.changed(dice, &figure, &bytes, tally)?;
+        }
+        if !records::read_back(&mut self.port, &bytes, dice.next() as usize)? {
+            return Err(format!("figures.rs does not read {} back", records::shown(&bytes)));
+        }
+        self.damaged(dice, &figure, bytes, tally)
+    }
+
+    fn name(&mut self, index: u64) -> String {
+        format!("figure {index}")
+    }
+}
+
+fn any_figure(dice: &mut Dice) -> Figure {
+    let count = count(dice);
+    if dice.one_in(4) {
+        chance::spherical(dice, count.max(1))
+    } else {
+        chance::any_figure(dice, count)
+    }
+}
+
+/// The port tries all numberings: nine nodes take as long as a thousand times six.
+fn count(dice: &mut Dice) -> usize {
+    match dice.below(1 << 16) {
+        0 => 9,
+        1..=8 => 8,
+        9..=150 => 7,
+        151..=6000 => 6,
+        _ => dice.pick(&[0, 1, 1, 2, 2, 2, 3, 3, 3, 3, 4, 4, 4, 4, 4, 5, 5, 5, 5]),
+    }
+}
+
+impl Pairs {
+    /// The record of a text for the figure, in the order given with it.
+    fn filed(
+        &mut self,
+        dice: &mut Dice,
+        figure: &Figure,
+        spelling: (Vec<u8>, Numbering),
+    ) -> Result<[u8; RECORD], String> {
+        let (text, order) = spelling;
+        let written = records::written(&mut self.port, &text, &figure.renumbered(&order), dice.next() as usize);
+        written.map_err(|what| format!("\"{}\": {what}", text.escape_ascii()))
+    }
+
+    fn changed(
+        &mut self,
+        dice: &mut Dice,
+        figure: &Figure,
+        bytes: &[u8; RECORD],
+        tally: &mut Tally,
+    ) -> Result<(), String> {
+        let other = chance::changed(dice, figure);
+        let Some(spelling) = spelling::short_spelling(dice, &other, 20) else {
+            tally.count(TOO_LONG);
+            return Ok(());
+        };
+        let same = figure.same(&other);
+        tally.count(if same { SAME } else { APART });
+        if same != (self.filed(dice, &other, spelling)? == *bytes) {
+            let layouts = [figure, &other].map(|figure| records::shown(&figure.layout()));
+            return Err(format!("a changed figure, the same: {same}; {} and {}", layouts[0], layouts[1]));
+        }
+        Ok(())
+    }
+
+    /// Bytes that are no record, or another's: one byte changed, or the figure laid out in any numbering.
+    fn damaged(
+        &mut self,
+        dice: &mut Dice,
+        figure: &Figure,
+        mut bytes: [u8; RECORD],
+        tally: &mut Tally,
+    ) -> Result<(), String> {
+        if dice.one_in(8) {
+            let mut numbering = PLAIN;
+            dice.shuffle(&mut numbering[..figure.count]);
+            bytes = figure.renumbered(&numbering).layout();
+        } else {
+            damage(dice, &mut bytes);
+        }
+        let window = dice.next() as usize;
+        let read = records::read_back(&mut self.port, &bytes, window)?;
+        tally.count(if read { DAMAGED_READ } else { DAMAGED_REFUSED });
+        if dice.one_in(16) {
+            let long = [&bytes[..], &[0; 30]].concat();
+            let any = dice.below(RECORD);
+            let len = dice.pick(&[0, 1, RECORD - 1, RECORD + 1, RECORD + 30, any]);
+            tally.count(WRONG_LENGTH);
+            self.port.check(Call::ReadRecord(&long[..len]), Want { answer: [13, 0, 0, 0], out: &[] }, window)?;
+        }
+        Ok(())
+    }
+}
+
+/// One byte changed, mostly among those that tell something, a little or wholly.
+fn damage(dice: &mut Dice, bytes: &mut [u8; RECORD]) {
+    let count = usize::from(bytes[0]);
+    let at = match dice.below(16) {
+        0 => 0,
+        1 => dice.below(RECORD),
+        2..=10 if count > 0 => 1 + dice.below(9 * count),
+        _ if count > 1 => 82 + dice.below(4 * count * (count - 1)),
+        _ => dice.below(RECORD),
+    };
+    let change = match dice.below(3) {
+        0 => 1 << dice.below(8),
+        1 => dice.within(1, 3) as u8,
+        _ => dice.within(1, 255) as u8,
+    };
+    bytes[at] = if dice.one_in(2) { bytes[at] ^ change } else { bytes[at].wrapping_add(change) };
+}

@@ -1,0 +1,95 @@
+//! Nodes, fractions, and diagrams as `lexicon_read` lays them out.
+
+use crate::cox::cd::{Cd, Node};
+
+pub const LIMIT: usize = 9;
+pub const DIAGRAM: usize = 153;
+
+pub const UNRINGED: u8 = 1;
+pub const RINGED: u8 = 2;
+pub const SNUB: u8 = 3;
+
+/// A node: its kind, and the bits of its length, 0 if unringed. The order is that of its nine bytes in a record.
+#[derive(Clone, Copy, PartialEq, Eq, PartialOrd, Ord)]
+pub struct Place {
+    pub kind: u8,
+    pub bits: u64,
+}
+
+pub const EMPTY: Place = Place { kind: UNRINGED, bits: 0 };
+
+impl Place {
+    pub fn of(node: Node) -> Self {
+        match node {
+            Node::Unringed => EMPTY,
+            Node::Ringed(value) => Self { kind: RINGED, bits: value.to_bits() },
+            Node::Snub(value) => Self { kind: SNUB, bits: value.to_bits() },
+        }
+    }
+}
+
+/// The order is that of the eight bytes in a record.
+#[derive(Clone, Copy, PartialEq, Eq, PartialOrd, Ord)]
+pub struct Fraction {
+    pub num: u32,
+    pub den: u32,
+}
+
+impl Fraction {
+    pub fn lowest(self) -> Self {
+        let divisor = gcd(self.num, self.den);
+        Self { num: self.num / divisor, den: self.den / divisor }
+    }
+}
+
+fn gcd(a: u32, b: u32) -> u32 {
+    if b == 0 {
+        a
+    } else {
+        gcd(b, a % b)
+    }
+}
+
+/// What `lexicon_read` writes: kind and length of nine nodes, then rank, num and den of every pair.
+#[repr(transparent)]
+pub struct Diagram(pub [u64; DIAGRAM]);
+
+impl Diagram {
+    pub fn new(nodes: impl Iterator<Item = Place>) -> Self {
+        let mut diagram = Self([0; DIAGRAM]);
+        diagram.put_nodes(nodes);
+        diagram
+    }
+
+    /// The Rust's.
+    pub fn of(cd: &Cd) -> Self {
+        let mut diagram = Self([0; DIAGRAM]);
+        diagram.lay_out(cd);
+        diagram
+    }
+
+    /// The Rust's over what is there, its edges in the order stored.
+    pub fn lay_out(&mut self, cd: &Cd) {
+        self.put_nodes(cd.node_iter().map(Place::of));
+        self.0[2 * LIMIT..].fill(0);
+        for (i, edge) in cd.raw_edges().iter().enumerate() {
+            let ends = (edge.source().index(), edge.target().index());
+            let fraction = Fraction { num: edge.weight.num, den: edge.weight.den };
+            self.put(i + 1, ends, fraction);
+        }
+    }
+
+    fn put_nodes(&mut self, nodes: impl Iterator<Item = Place>) {
+        let places = nodes.chain(std::iter::repeat(EMPTY));
+        for (out, place) in self.0[..2 * LIMIT].chunks_mut(2).zip(places) {
+            out.copy_from_slice(&[place.kind.into(), place.bits]);
+        }
+    }
+
+    /// The edge between two nodes, in either order, and its rank.
+    pub fn put(&mut self, rank: usize, (a, b): (usize, usize), fraction: Fraction) {
+        let (i, j) = (a.min(b), a.max(b));
+        let at = 2 * LIMIT + 3 * (j * (j + 1) / 2 + i);
+        self.0[at..at + 3].copy_from_slice(&[rank as u64, fraction.num.into(), fraction.den.into()]);
+    }
+}
