@@ -22,7 +22,7 @@ use Rattle.lexicon.proofs.Fileable.{accepted-diagram}
 one-diagram : {x : Reading} {ns ms : List Node} {es fs : List Stored} → x ≡ Accepted ns es → x ≡ Accepted ms fs → diagram ns es ≡ diagram ms fs
 one-diagram {ns = ns} {ms = ms} {es = es} {fs = fs} h k = let e = sym h ∙ k in ap₂ diagram (let q : ns ≡ ms = cc in q) (let q : es ≡ fs = cc in q)
 
-not-both : {x : Reading} {e : CdError} {ns : List Node} {es : List Stored} → x ≡ Refused e → x ≡ Accepted ns es → ⊥
+pub not-both : {x : Reading} {e : CdError} {ns : List Node} {es : List Stored} → x ≡ Refused e → x ≡ Accepted ns es → ⊥
 not-both h k = let z : _≡_ {A = ℕ} 0 1 = (cc) in omega arith
 
 -- what the call wrote on an accepted text

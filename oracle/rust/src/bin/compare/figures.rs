@@ -3,9 +3,10 @@
 
 use std::cmp::Ordering;
 
-use miratope::cox::cd::Cd;
-
-use miratope::diagrams::{Diagram, Fraction, Place, EMPTY, LIMIT, SNUB, UNRINGED};
+use miratope::{
+    cox::cd::Cd,
+    diagrams::{Diagram, Fraction, Place, EMPTY, LIMIT, SNUB, UNRINGED},
+};
 
 pub const RECORD: usize = 370;
 

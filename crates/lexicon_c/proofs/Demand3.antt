@@ -1,0 +1,91 @@
+-- Demand 3 of the calls for C: two calls of `lexicon_write_record` that return 0 have written the same 370 bytes exactly when some renumbering carries one text's
+-- diagram onto the other's. It rests on the promise `FilesForC` alone. Assumes nothing.
+use mathlib.Core.List.{List, [], _∷_}
+use mathlib.Core.Logic.{_↔_}
+use mathlib.Core.Path.{_≡_, sym, ap, _∙_}
+use Prim.Native.Nat.{ℕ, _≤_, _<_}
+use native.Mathlib.Omega.{arith}
+use lib.ListN.{length, getD, take}
+use Rattle.cd.specs.Arrays.{padded}
+use Rattle.cd.specs.Diagrams.{Stored, limit}
+use Rattle.cd.specs.Refusals.{numberOf}
+use Rattle.cd.specs.declared.CdError.{CdError}
+use Rattle.cd.specs.declared.CdError.the-variants.{TooLong, NotAscii, MismatchedParenthesis, UnexpectedEnding, ParseError, InvalidSymbol, InvalidEdge, RepeatEdge, OutOfRange, TooManyNodes, MissingNode, ShortBuffer, RecordLength, NoDiagram, Crowded, Infinite, NoFamily}
+use Rattle.cd.specs.declared.Node.{Node}
+use Rattle.filing.specs.Diagrams.{Iso}
+use Rattle.filing.specs.Records.{recordLength}
+use Rattle.lent.specs.Outcomes.{told}
+use Rattle.lent.specs.Shown.{outcome}
+use Rattle.lexicon.specs.Files.{Files, refused, short, filed}
+use Rattle.lexicon.specs.declared.Filed.{Filed}
+use Rattle.lexicon.proofs.Demand3.{not-both}
+use Rattle.lexicon.proofs.Demand3 as lexicon
+use Rattle.parse.specs.Reading.{Accepted, read}
+use Rattle.parse.specs.declared.Answer.the-variants as said
+use Rattle.tables.specs.Diagrams.{diagram}
+use Rattle.lexicon_c.specs.Calls.{FilesForC}
+
+-- no refusal has the number 0
+numbered : (e : CdError) → 0 < getD (padded 0 4 (numberOf e)) 0 0
+unfolding padded numberOf
+numbered (TooLong p) = omega arith
+numbered (NotAscii p) = omega arith
+numbered (MismatchedParenthesis p) = omega arith
+numbered (UnexpectedEnding p) = omega arith
+numbered (ParseError p) = omega arith
+numbered (InvalidSymbol p) = omega arith
+numbered (InvalidEdge n d p) = omega arith
+numbered (RepeatEdge a b) = omega arith
+numbered (OutOfRange p) = omega arith
+numbered (TooManyNodes p) = omega arith
+numbered (MissingNode k) = omega arith
+numbered ShortBuffer = omega arith
+numbered RecordLength = omega arith
+numbered NoDiagram = omega arith
+numbered (Crowded k) = omega arith
+numbered (Infinite k) = omega arith
+numbered NoFamily = omega arith
+
+refused-numbered : (r : Filed) (e : CdError) (n : ℕ) → r .answer ≡ said.Refused e → n ≡ getD (told (outcome {A = ℕ} (r .answer) (r .count ∷ []) [])) 0 0 → 0 < n
+unfolding told outcome
+refused-numbered r e n h k = rw (k ∙ ap (λ a. getD (told (outcome {A = ℕ} a (r .count ∷ []) [])) 0 0) h) (numbered e)
+
+-- what a call that returns 0 tells: the text has a diagram, and the buffer is long enough
+pub record Filed0 (text out : List ℕ) : Type 0 where
+  pub nodes : List Node
+  pub edges : List Stored
+  pub accepted : read text ≡ Accepted nodes edges
+  pub long : recordLength limit ≤ length out
+
+module _ {text out out′ : List ℕ} {r : Filed} where
+  on-0 : (n : ℕ) → n ≡ 0 → n ≡ getD (told (outcome {A = ℕ} (r .answer) (r .count ∷ []) [])) 0 0 → Files text out out′ r → Filed0 text out
+  on-0 n z k (refused {e} h q o) = absurd (let p = refused-numbered r e n (ap (λ (f : Filed). f .answer) q) k in omega arith)
+  on-0 n z k (short h l q o) = absurd (let p = refused-numbered r ShortBuffer n (ap (λ (f : Filed). f .answer) q) k in omega arith)
+  on-0 n z k (filed {ns} {es} h l a c w) = record { nodes = ns; edges = es; accepted = h; long = l }
+
+  to-0 : (n : ℕ) → n ≡ getD (told (outcome {A = ℕ} (r .answer) (r .count ∷ []) [])) 0 0 → Files text out out′ r → Filed0 text out → n ≡ 0
+  unfolding told outcome padded
+  to-0 n k (refused h q o) d = absurd (not-both h (d .accepted))
+  to-0 n k (short h l q o) d = let long = d .long in absurd (omega arith)
+  to-0 n k (filed h l a c w) d = k ∙ ap (λ x. getD (told (outcome {A = ℕ} x (r .count ∷ []) [])) 0 0) a
+
+pub returned-0 : {text out out′ p p′ u : List ℕ} {n : ℕ} → FilesForC text out out′ p p′ u n → n ≡ 0 → Filed0 text out
+returned-0 {n = n} f z = on-0 n z (f .returned ∙ ap (λ u. getD u 0 0) (f .answer)) (f .files)
+
+-- and such a call returns 0
+pub returns-0 : {text out out′ p p′ u : List ℕ} {n : ℕ} → FilesForC text out out′ p p′ u n → Filed0 text out → n ≡ 0
+returns-0 {n = n} f d = to-0 n (f .returned ∙ ap (λ u. getD u 0 0) (f .answer)) (f .files) d
+
+-- two calls that return 0
+module _ (s t a a′ b b′ p p′ q q′ u v : List ℕ) (m n : ℕ) (files-s : FilesForC s a a′ p p′ u m) (files-t : FilesForC t b b′ q q′ v n) (m-0 : m ≡ 0) (n-0 : n ≡ 0) where
+  abbrev pub drawn-s : Filed0 s a
+  drawn-s = returned-0 files-s m-0
+
+  abbrev pub drawn-t : Filed0 t b
+  drawn-t = returned-0 files-t n-0
+
+  pub demand-3 : (take (recordLength limit) a′ ≡ take (recordLength limit) b′)
+      ↔ Iso (diagram (drawn-s .nodes) (drawn-s .edges)) (diagram (drawn-t .nodes) (drawn-t .edges))
+  demand-3 =
+      lexicon.demand-3 s t (drawn-s .nodes) (drawn-t .nodes) (drawn-s .edges) (drawn-t .edges) a a′ b b′ (files-s .filed) (files-t .filed) (drawn-s .accepted)
+      (drawn-t .accepted) (drawn-s .long) (drawn-t .long) (files-s .files) (files-t .files)
