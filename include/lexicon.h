@@ -1,7 +1,7 @@
 /* Coxeter diagrams in line notation and their filing records: the calls of crates/lexicon for C, proved in crates/lexicon_c.
  *
  * Each call takes any text, record, family letter and size, and any length of buffer, and ends with an answer or with a refusal. It returns 0 for an
- * answer, or the refusal's number, keeps nothing, and may be called from any thread.
+ * answer, or the refusal's number, keeps nothing, allocates nothing, and may be called from any thread; 20 KB of stack were enough for every call. The library is for x86-64.
  *
  * What a caller must ensure, and nothing more: a pointer has as many readable, or for a buffer writable, elements behind it as the length beside it
  * says, and may be null if that is 0; `answer` has four writable elements behind it, `numbering` nine; and none of what the pointers point at overlaps.

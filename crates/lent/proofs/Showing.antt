@@ -1,14 +1,11 @@
 -- What a call tells and shows, case by case: refused, too short a slice, shown. Assumes nothing.
-use mathlib.Core.Bool.{Bool, true, false}
 use mathlib.Core.List.{List, _∷_}
 use mathlib.Core.Path.{_≡_, refl, sym, ap, subst, _∙_}
 use Prim.Native.Nat.{ℕ, _*_, _≤_, _<_}
 use native.Mathlib.Omega.{arith}
 use borrow.Author.Tests.{lt-ltb, le-ltb}
-use lib.Dec.{ltb}
 use lib.ListN.{length, getD, length-append}
 use lib.Seq.{sets}
-use Rattle.float.specs.Pick.{pick}
 use Rattle.cd.specs.Arrays.{padded}
 use Rattle.cd.specs.Diagrams.{limit, pairLimit}
 use Rattle.cd.specs.Refusals.{numberOf}

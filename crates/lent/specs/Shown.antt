@@ -7,7 +7,6 @@ use Rattle.cd.specs.Diagrams.{limit, pairLimit}
 use Rattle.cd.specs.declared.Cd.{Cd}
 use Rattle.cd.specs.declared.Pair.{Pair}
 use Rattle.cd.specs.declared.Place.{Place}
-use Rattle.generator.specs.declared.Generator.{Generator}
 use Rattle.lexicon.specs.declared.Reading.{Reading}
 use Rattle.lexicon.specs.declared.geometry.Generated.{Generated}
 use Rattle.lexicon.specs.declared.geometry.Reflected.{Reflected}

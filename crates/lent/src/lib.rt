@@ -36,6 +36,7 @@ const REFLECTIONS: usize = SQUARE * LIMIT;
 
 // ---- what a call tells
 
+// Stores the answer; its first number is what the call returns.
 pub fn tell(f: [usize; ANSWER], answer: &mut [usize; ANSWER]) -> usize
     ensures { λ r. ⌜ (now (answer .exit) ≡ f) × (r ≡ getD (now (answer .exit)) 0 0) ⌝ }
 {
@@ -54,6 +55,7 @@ pub fn refuse(e: CdError, answer: &mut [usize; ANSWER]) -> usize
 
 // ---- what a call shows
 
+// Stores doubles from `at` on.
 fn put(out: &mut [f64], at: usize, from: &[f64])
     requires { ⌜ at + length (now from) ≤ length (now out) ⌝ }
     ensures { λ _. ⌜ now (out .exit) ≡ sets (now (out .entry)) at (now (from .entry)) ⌝ }
@@ -85,6 +87,7 @@ fn put_matrices(out: &mut [f64], of: [Matrix; LIMIT])
     }
 }
 
+// A node's kind and the bits of its length.
 fn put_node(out: &mut [u64], at: usize, p: Place)
     requires { ⌜ (at + 2 ≤ length (now out)) × IsNumber (p .node) ⌝ }
     ensures { λ _. ⌜ now (out .exit) ≡ sets (now (out .entry)) at (nodeNumbers p) ⌝ }
@@ -105,6 +108,7 @@ fn put_nodes(out: &mut [u64], nodes: [Place; LIMIT])
     }
 }
 
+// An edge's rank, num and den, or zeros.
 fn put_pair(out: &mut [u64], at: usize, p: Pair)
     requires { ⌜ at + 3 ≤ length (now out) ⌝ }
     ensures { λ _. ⌜ now (out .exit) ≡ sets (now (out .entry)) at (pairNumbers p) ⌝ }

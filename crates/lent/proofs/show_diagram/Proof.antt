@@ -1,5 +1,5 @@
 -- `lent::show_diagram` meets its contract: refused, too short, shown (proofs/Showing.antt). Assumes nothing.
-use mathlib.Core.Path.{_≡_, refl, sym, _∙_}
+use mathlib.Core.Path.{_≡_, refl, _∙_}
 use native.Mathlib.Omega.{arith}
 use lib.ListN.{length}
 use borrow.Author.Needs.{needs}
