@@ -1,7 +1,3 @@
--- The laws of the arrays that hold a diagram, of its components and of its rings.
+-- The laws of the arrays that hold a diagram.
 pub mod Arrays
 pub mod Stored
-pub mod Paths
-pub mod Labelling
-pub mod Links
-pub mod Rings

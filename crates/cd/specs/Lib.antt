@@ -7,4 +7,3 @@ pub mod Arrays
 pub mod Diagrams
 pub mod Paths
 pub mod Minimal
-pub mod Labels

@@ -10,8 +10,6 @@ ghost use Rattle.cd.specs.References.{indexOf, endsOf};
 ghost use Rattle.cd.specs.Refusals.{numberOf};
 ghost use Rattle.cd.specs.Diagrams.{limit, pairLimit, placeOf};
 
-pub mod minimal; // minimal.rt: components, and whether a diagram is minimal
-
 // How many nodes a diagram has at most, and how many pairs, loops included; how many if each two nodes count in both orders.
 pub const LIMIT: usize = 9;
 

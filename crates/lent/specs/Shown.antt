@@ -8,9 +8,9 @@ use Rattle.cd.specs.declared.Cd.{Cd}
 use Rattle.cd.specs.declared.Pair.{Pair}
 use Rattle.cd.specs.declared.Place.{Place}
 use Rattle.lexicon.specs.declared.Reading.{Reading}
-use Rattle.lexicon.specs.declared.geometry.Generated.{Generated}
-use Rattle.lexicon.specs.declared.geometry.Reflected.{Reflected}
-use Rattle.lexicon.specs.declared.geometry.Square.{Square}
+use Rattle.geometry.specs.declared.Generated.{Generated}
+use Rattle.geometry.specs.declared.Reflected.{Reflected}
+use Rattle.geometry.specs.declared.Square.{Square}
 use Rattle.parse.specs.declared.Answer.{Answer}
 use Rattle.parse.specs.declared.Answer.the-variants as said
 use Rattle.parse.specs.declared.Read.{Read}

@@ -4,4 +4,3 @@ mod Sound
 pub mod Fileable
 pub mod Demand3
 mod FilingsRight
-pub mod Shapes

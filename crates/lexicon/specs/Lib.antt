@@ -3,5 +3,3 @@ pub mod Reads
 pub mod Files
 pub mod ReadsRecord
 pub mod Filings
-pub mod Squares
-pub mod Points

@@ -9,8 +9,6 @@ ghost use Rattle.lexicon.specs.Files.{refusal as the-refusal, Files};
 ghost use Rattle.lexicon.specs.Reads.{Reads};
 ghost use Rattle.lexicon.specs.ReadsRecord.{ReadsRecord};
 
-pub mod geometry; // geometry.rt: matrices, mirrors, the generator, the reflections
-
 // A text's diagram, or what refuses it, and whether the diagram is minimal.
 pub struct Reading {
     pub read: Read,
@@ -27,7 +25,7 @@ pub fn read(text: &[u8]) -> Reading
             let cd = r.cd;
             Reading {
                 read: r,
-                minimal: cd::minimal::minimal(cd),
+                minimal: minimal::minimal(cd),
             }
         }
         Answer::Refused(_) => Reading {

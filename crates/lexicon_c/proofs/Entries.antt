@@ -13,8 +13,8 @@ use Rattle.cox.specs.Matrix.{matrix}
 use Rattle.cox.specs.Squares.{flat, flatSquare, Square, zeros}
 use Rattle.cox.proofs.Flats.{length-square}
 use Rattle.filing.specs.Bytes.{blocks}
-use Rattle.lexicon.specs.Points.{refusedReflections, shownReflections, reflectionsOfText}
-use Rattle.lexicon.specs.declared.geometry.Reflected.{Reflected}
+use Rattle.geometry.specs.Points.{refusedReflections, shownReflections, reflectionsOfText}
+use Rattle.geometry.specs.declared.Reflected.{Reflected}
 use Rattle.normals.specs.Mirrors.{Mirrors, Columns, mirrors}
 use Rattle.normals.specs.Mirrors as normals
 use Rattle.parse.specs.Reading.{Reading, Accepted, Refused}

@@ -4,8 +4,8 @@ use lent::ANSWER;
 use parse::Answer;
 ghost use Rattle.lent.specs.Outcomes.{Lends};
 ghost use Rattle.lent.specs.Shown.{ofSquare, ofGenerated, ofReflected};
-ghost use Rattle.lexicon.specs.Points.{generatorOfText, reflectionsOfText};
-ghost use Rattle.lexicon.specs.Squares.{matrixOf, mirrorsOf, familyMatrixOf, familyMirrorsOf};
+ghost use Rattle.geometry.specs.Points.{generatorOfText, reflectionsOfText};
+ghost use Rattle.geometry.specs.Squares.{matrixOf, mirrorsOf, familyMatrixOf, familyMirrorsOf};
 ghost use Rattle.parse.specs.Reading.{read};
 ghost use Rattle.lexicon_c.specs.Calls.{ReadsForC, FilesForC, ReadsRecordForC};
 
@@ -61,7 +61,7 @@ pub extern "C" fn lexicon_matrix(
 ) -> usize
     ensures { λ r. ⌜ Lends (ofSquare (matrixOf (read (now (text .entry))))) (now (out .entry)) (now (out .exit)) (now (answer .exit)) r ⌝ }
 {
-    lent::show_square(lexicon::geometry::matrix(text), out, answer)
+    lent::show_square(geometry::matrix(text), out, answer)
 }
 
 #[no_mangle]
@@ -72,7 +72,7 @@ pub extern "C" fn lexicon_mirrors(
 ) -> usize
     ensures { λ r. ⌜ Lends (ofSquare (mirrorsOf (read (now (text .entry))))) (now (out .entry)) (now (out .exit)) (now (answer .exit)) r ⌝ }
 {
-    lent::show_square(lexicon::geometry::mirrors(text), out, answer)
+    lent::show_square(geometry::mirrors(text), out, answer)
 }
 
 #[no_mangle]
@@ -83,7 +83,7 @@ pub extern "C" fn lexicon_generator(
 ) -> usize
     ensures { λ r. ⌜ Lends (ofGenerated (generatorOfText (read (now (text .entry))))) (now (out .entry)) (now (out .exit)) (now (answer .exit)) r ⌝ }
 {
-    lent::show_generated(lexicon::geometry::generator(text), out, answer)
+    lent::show_generated(geometry::generator(text), out, answer)
 }
 
 #[no_mangle]
@@ -94,7 +94,7 @@ pub extern "C" fn lexicon_reflections(
 ) -> usize
     ensures { λ r. ⌜ Lends (ofReflected (reflectionsOfText (read (now (text .entry))))) (now (out .entry)) (now (out .exit)) (now (answer .exit)) r ⌝ }
 {
-    lent::show_reflected(lexicon::geometry::reflections(text), out, answer)
+    lent::show_reflected(geometry::reflections(text), out, answer)
 }
 
 #[no_mangle]
@@ -106,7 +106,7 @@ pub extern "C" fn lexicon_family_matrix(
 ) -> usize
     ensures { λ r. ⌜ Lends (ofSquare (familyMatrixOf letter size)) (now (out .entry)) (now (out .exit)) (now (answer .exit)) r ⌝ }
 {
-    lent::show_square(lexicon::geometry::family_matrix(letter, size), out, answer)
+    lent::show_square(geometry::family_matrix(letter, size), out, answer)
 }
 
 #[no_mangle]
@@ -118,5 +118,5 @@ pub extern "C" fn lexicon_family_mirrors(
 ) -> usize
     ensures { λ r. ⌜ Lends (ofSquare (familyMirrorsOf letter size)) (now (out .entry)) (now (out .exit)) (now (answer .exit)) r ⌝ }
 {
-    lent::show_square(lexicon::geometry::family_mirrors(letter, size), out, answer)
+    lent::show_square(geometry::family_mirrors(letter, size), out, answer)
 }

@@ -2,9 +2,9 @@
 // each double by its bits. oracle/cox.py has the kinds of lines.
 use cd::LIMIT;
 use cd::SQUARE;
-use lexicon::geometry::Generated;
-use lexicon::geometry::Reflected;
-use lexicon::geometry::Square;
+use geometry::Generated;
+use geometry::Reflected;
+use geometry::Square;
 use parse::Answer;
 use reflections::Reflections;
 ghost use Prim.Native.Nat.{_+_, _≤_, _<_};
@@ -216,17 +216,17 @@ fn answer(s: &[u8], out: &mut [u8], at: usize) -> usize
         return at;
     }
     match s[0] {
-        b'm' => put_square(out, at, lexicon::geometry::matrix(&s[2..])),
-        b'n' => put_square(out, at, lexicon::geometry::mirrors(&s[2..])),
-        b'g' => put_generated(out, at, lexicon::geometry::generator(&s[2..])),
-        b'r' => put_reflected(out, at, lexicon::geometry::reflections(&s[2..])),
+        b'm' => put_square(out, at, geometry::matrix(&s[2..])),
+        b'n' => put_square(out, at, geometry::mirrors(&s[2..])),
+        b'g' => put_generated(out, at, geometry::generator(&s[2..])),
+        b'r' => put_reflected(out, at, geometry::reflections(&s[2..])),
         b'M' => {
             let f = named(&s[2..]);
-            put_square(out, at, lexicon::geometry::family_matrix(f.letter, f.size))
+            put_square(out, at, geometry::family_matrix(f.letter, f.size))
         }
         b'N' => {
             let f = named(&s[2..]);
-            put_square(out, at, lexicon::geometry::family_mirrors(f.letter, f.size))
+            put_square(out, at, geometry::family_mirrors(f.letter, f.size))
         }
         _ => at,
     }

@@ -1,0 +1,3 @@
+-- What the geometers' calls promise.
+pub mod Squares
+pub mod Points

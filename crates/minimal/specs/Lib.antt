@@ -1,0 +1,2 @@
+-- What the steps of the component walk promise each other.
+pub mod Labels
