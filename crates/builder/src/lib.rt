@@ -1,7 +1,40 @@
-// The reader that holds the text and a cursor. It is thin: each function takes it apart and hands slice and cursor to `parse_from`.
+// The text tested, then read; and the reader that holds the text and a cursor. That is thin: each function takes it apart and hands slice and cursor to `parse_from`.
+use cd::CdError;
 use parse::Read;
 ghost use mathlib.Core.Path.{_≡_};
-ghost use Rattle.parse.specs.Reading.{readFrom, read, answer};
+ghost use Rattle.parse.specs.Reading.{high, readFrom, read, answer};
+
+// The place of the first byte of 128 or more, or the length.
+pub fn not_ascii(s: &[u8]) -> usize
+    ensures { λ r. ⌜ r ≡ high (now (s .entry)) 0 ⌝ }
+{
+    let mut i = 0;
+    while i < s.len() {
+        if 128 <= s[i] {
+            return i;
+        } else {
+            i += 1;
+        }
+    }
+    i
+}
+
+// The diagram of the text from `at` on, or what refuses it.
+pub fn parse_from(s: &[u8], at: usize) -> Read
+    ensures { λ r. ⌜ r ≡ answer (readFrom (now (s .entry)) at) ⌝ }
+{
+    if 255 < s.len() {
+        return parse::refused(CdError::TooLong { pos: 255 });
+    }
+    let high = not_ascii(s);
+    if high < s.len() {
+        return parse::refused(CdError::NotAscii { pos: high });
+    }
+    if s.len() < at {
+        return parse::refused(CdError::UnexpectedEnding { pos: at });
+    }
+    parse::read_text(s, at)
+}
 
 pub struct CdBuilder<'a> {
     pub diagram: &'a [u8],
@@ -18,7 +51,7 @@ pub fn new<'a>(diagram: &'a [u8]) -> CdBuilder<'a>
 pub fn build<'a>(b: CdBuilder<'a>) -> Read
     ensures { λ r. ⌜ r ≡ answer (readFrom (now (b .entry .diagram)) (b .entry .at)) ⌝ }
 {
-    parse::parse_from(b.diagram, b.at)
+    parse_from(b.diagram, b.at)
 }
 
 // The diagram of a text, or what refuses it: `Cd::parse`.

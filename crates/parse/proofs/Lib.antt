@@ -1,6 +1,5 @@
--- The laws of reading: the loop over the text, the tests before it, the queue; and the texts to try.
+-- The laws of reading: the loop over the text, the queue; and the texts to try.
 mod JoinLaws
-mod ReadLaws
 mod Turns
 pub mod Outcomes
 mod TextsRight

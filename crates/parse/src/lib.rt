@@ -16,7 +16,7 @@ ghost use mathlib.Core.Path.{_≡_};
 ghost use Prim.Native.Nat.{_≤_};
 ghost use lib.ListN.{length};
 ghost use Rattle.parse.specs.Text.{textFrom};
-ghost use Rattle.parse.specs.Reading.{Reading, joined, high, readFrom, answer};
+ghost use Rattle.parse.specs.Reading.{Reading, joined, answer};
 
 // Edges wait here. A turn that adds one reads two bytes, so 128 places do for 255.
 pub struct Queue {
@@ -174,36 +174,4 @@ pub fn read_text(s: &[u8], start: usize) -> Read
             edges: edges,
         },
     }
-}
-
-// The place of the first byte of 128 or more, or the length.
-pub fn not_ascii(s: &[u8]) -> usize
-    ensures { λ r. ⌜ r ≡ high (now (s .entry)) 0 ⌝ }
-{
-    let mut i = 0;
-    while i < s.len() {
-        if 128 <= s[i] {
-            return i;
-        } else {
-            i += 1;
-        }
-    }
-    i
-}
-
-// The diagram of the text from `at` on, or what refuses it.
-pub fn parse_from(s: &[u8], at: usize) -> Read
-    ensures { λ r. ⌜ r ≡ answer (readFrom (now (s .entry)) at) ⌝ }
-{
-    if 255 < s.len() {
-        return refused(CdError::TooLong { pos: 255 });
-    }
-    let high = not_ascii(s);
-    if high < s.len() {
-        return refused(CdError::NotAscii { pos: high });
-    }
-    if s.len() < at {
-        return refused(CdError::UnexpectedEnding { pos: at });
-    }
-    read_text(s, at)
 }

@@ -5,8 +5,8 @@ use Rattle.builder.proofs.Walk.{refl, [], _∷_, w64, vint, id⊢, give
 use Rattle.builder.proofs.Walk.{slice-vals, says, freed, D, laws, apart, proved, called}
 use Rattle.parse.proofs.Read as R
 use Rattle.parse.proofs.Read.Laws as R′
-use Rattle.parse.proofs.parse_from as callee
-use Rattle.parse.proofs.parse_from.Met.{met}
+use Rattle.builder.proofs.parse_from as callee
+use Rattle.builder.proofs.parse_from.Met.{met}
 use Rattle.builder.proofs.CdBuilder.Laws as T′
 use Rattle.builder.proofs.build as this
 use Rattle.builder.proofs.build.Key.{name}
@@ -22,7 +22,7 @@ build-spec 𝓤 H 𝓜 𝓖 𝓡 =
     -- [_3; …; _2; …; _1; …; room for _0; …; the token and what the reader owns]
     assigns ! (of-opd ! (load ! (from ! (fld ! refl (stop !))) (look-in ! 4 (sub ! 0 refl (whole !))))) (from ! (stop !)) (init ! 2 refl (tt, typed .1 .0)) $
     assigns ! (of-opd ! (load ! (from ! (fld ! refl (stop !))) (look-in ! 4 (sub ! 1 refl (whole !))))) (from ! (stop !)) (init ! 0 refl (tt, typed .1 .1 .0)) $
-    move ! (8 ∷ []) $ called 𝓤 H 𝓜 𝓖 𝓡 code.env callee.ended (callee.clauses 𝓤 H) ! code.calls-parse·parse-from (met 𝓤 H 𝓜 𝓖 𝓡) ((κs, qs, tt, (a .0 .diagram, (a .0 .at, tt)), (slice-vals (a .0 .diagram), (vint w64 (a .0 .at) ∷ [], tt))), tt)
+    move ! (8 ∷ []) $ called 𝓤 H 𝓜 𝓖 𝓡 code.env callee.ended (callee.clauses 𝓤 H) ! code.calls-builder·parse-from (met 𝓤 H 𝓜 𝓖 𝓡) ((κs, qs, tt, (a .0 .diagram, (a .0 .at, tt)), (slice-vals (a .0 .diagram), (vint w64 (a .0 .at) ∷ [], tt))), tt)
     (apart κs 𝓤 H (𝓖 .A) (givenOf 𝓤 H 𝓜 𝓖) (a .0)) (and-then ! (load ! (from ! (stop !)) (look ! 3 refl)) (and-then ! (load ! (from ! (stop !)) (look ! 1 refl)) (no-more !))) (λ r ws. id⊢ 𝓤 _) (λ u r e is.
     -- [the token and what the result owns; _3; …; _2; …; _1; …; room for _0; …]
     land ! (from ! (stop !)) (init ! 7 refl (LL.lawful R.the-type R′.the-laws 𝓤 H (𝓖 .A) (givenOf 𝓤 H 𝓜 𝓖) .typed r _ is .0)) $

@@ -1,12 +1,12 @@
--- `parse::not_ascii` meets its contract. The invariant: what is found from here on is what is found from the start on. Assumes nothing.
+-- `builder::not_ascii` meets its contract. The invariant: what is found from here on is what is found from the start on. Assumes nothing.
 use Prim.Native.Nat.{_≤_, _-_}
 use mathlib.Core.Path.{_≡_, _∙_}
 use lib.ListN.{length, drop}
 use borrow.Author.Needs.{needs}
 use Rattle.parse.specs.Reading.{high}
-use Rattle.parse.proofs.ReadLaws.{high-here, high-on, high-end}
-use Rattle.parse.proofs.not_ascii.Statement.{statement}
-use Rattle.parse.proofs.not_ascii.Tie as tie
+use Rattle.builder.proofs.ReadLaws.{high-here, high-on, high-end}
+use Rattle.builder.proofs.not_ascii.Statement.{statement}
+use Rattle.builder.proofs.not_ascii.Tie as tie
 
 abbrev Inv-loop : tie.InvT-loop
 Inv-loop s i₀ i = (i ≤ length s) × (high (drop i s) i ≡ high s 0)

@@ -1,11 +1,11 @@
--- `parse::parse_from` meets its contract: each answer is what the tests leave of `readFrom`. Assumes nothing.
+-- `builder::parse_from` meets its contract: each answer is what the tests leave of `readFrom`. Assumes nothing.
 use mathlib.Core.Path.{_≡_, sym, ap, _∙_}
 use borrow.Author.Needs.{needs}
 use Rattle.parse.specs.Text.{Outcome}
 use Rattle.parse.specs.Reading.{answer, joined}
-use Rattle.parse.proofs.ReadLaws.{too-long, not-low, low, beyond}
-use Rattle.parse.proofs.parse_from.Statement.{statement}
-use Rattle.parse.proofs.parse_from.Tie as tie
+use Rattle.builder.proofs.ReadLaws.{too-long, not-low, low, beyond}
+use Rattle.builder.proofs.parse_from.Statement.{statement}
+use Rattle.builder.proofs.parse_from.Tie as tie
 
 refused-requires : tie.Need-refused-requires
 refused-requires c κs = search needs
