@@ -7,7 +7,7 @@ use native.Mathlib.Numerals.{add-one}
 use borrow.Author.Tests.{lt-ltb, le-ltb}
 use lib.ListN.{length, take, getD}
 use lib.Seq.{take-suc}
-use Rattle.lines.specs.Answers.{glyph}
+use Rattle.lexicon.specs.Answers.{glyph}
 use Rattle.lines.specs.Written.{Adds}
 use Rattle.lines.proofs.Writing.{adds-then}
 use Rattle.cdfile.specs.Shown.{hexGlyph, hexes}

@@ -13,7 +13,7 @@ use Rattle.cd.specs.declared.CdError.{CdError}
 use Rattle.filing.specs.Records.{recordLength}
 use Rattle.lexicon.specs.Files.{Files, refused, short, filed}
 use Rattle.lexicon.specs.declared.Filed.{Filed}
-use Rattle.lines.specs.Answers.{glyph, spaced}
+use Rattle.lexicon.specs.Answers.{glyph, spaced}
 use Rattle.lines.specs.Written.{Adds}
 use Rattle.lines.proofs.Writing.{adds-then}
 use Rattle.parse.specs.declared.Answer.{Answer}

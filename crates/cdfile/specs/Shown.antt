@@ -11,7 +11,7 @@ use Rattle.cd.specs.Refusals.{numberOf}
 use Rattle.filing.specs.Records.{recordLength}
 use Rattle.lexicon.specs.Files.{Files}
 use Rattle.lexicon.specs.declared.Filed.{Filed}
-use Rattle.lines.specs.Answers.{glyph, spaced}
+use Rattle.lexicon.specs.Answers.{glyph, spaced}
 use Rattle.lines.specs.Written.{Adds}
 use Rattle.parse.specs.declared.Answer.{Answer}
 use Rattle.parse.specs.declared.Answer.the-variants as said

@@ -10,7 +10,7 @@ ghost use Prim.Native.Nat.{ℕ, _+_, _*_, _≤_, _<_};
 ghost use lib.ListN.{length, getD, take};
 ghost use Rattle.cd.specs.Diagrams.{limit};
 ghost use Rattle.cdfile.specs.Shown.{hexGlyph, hexes, shown, Shows};
-ghost use Rattle.lines.specs.Answers.{glyph as the-glyph};
+ghost use Rattle.lexicon.specs.Answers.{glyph as the-glyph};
 ghost use Rattle.lines.specs.Written.{Adds};
 
 fn glyph(d: u8) -> u8

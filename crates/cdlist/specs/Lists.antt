@@ -3,7 +3,7 @@ use Prim.Native.Nat.{ℕ}
 use mathlib.Core.Bool.{Bool}
 use mathlib.Core.List.{List, _++_}
 use Rattle.lexicon.specs.Reads.{Marks}
-use Rattle.lines.specs.Answers.{answerOf}
+use Rattle.lexicon.specs.Answers.{answerOf}
 use Rattle.lines.specs.Written.{Adds}
 use Rattle.parse.specs.Reading.{read}
 use Rattle.scan.specs.Ascii.{ascii}

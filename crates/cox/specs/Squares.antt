@@ -3,7 +3,7 @@
 use mathlib.Core.Bool.{_&&_}
 use mathlib.Core.List.{List, [], _∷_}
 use Prim.Native.Nat.{ℕ, zero, suc}
-use lib.Dec.{ltb, eqb}
+use lib.Dec.{eqb}
 use lib.Ieee.{Float}
 use Rattle.float.specs.Numbers.{whole, _+ᶠ_, _*ᶠ_}
 use Rattle.float.specs.Pick.{pick}
@@ -28,10 +28,6 @@ zeros c r = nil
 -- the square with v in row r of column c
 unfoldable pub put : Square → ℕ → ℕ → Float → Square
 put m c r v i j = pick (eqb i c && eqb j r) v (m i j)
-
--- the square with zeros outside its first n columns and rows
-unfoldable pub within : ℕ → Square → Square
-within n m c r = pick (ltb c n && ltb r n) (m c r) nil
 
 -- a row of N numbers, and a square, in one array
 unfoldable pub flat : {A : Type 0} → ℕ → (ℕ → A) → List A

@@ -10,9 +10,9 @@ use lib.ListN.{length, set, length-set}
 use lib.Seq.{getD-set-same, getD-set-other}
 use Rattle.filing.specs.Bytes.{_≼_}
 use Rattle.filing.specs.Diagrams.{Diagram}
-use Rattle.filing.specs.Numberings.{Injects, at, plain}
+use Rattle.filing.specs.Numberings.{Injects, Numbering, at, plain}
 use Rattle.filing.specs.Records.{layout, IsRecord}
-use Rattle.filing.specs.Searching.{IsNumbering, Covers, Below, Improves, Partly}
+use Rattle.filing.specs.Searching.{IsNumbering, Extends, Covers, Improves}
 use Rattle.filing.proofs.Bytes.{one-more, length-singles, singles-at}
 use Rattle.filing.proofs.Layouts.{layout-local}
 use Rattle.filing.proofs.Numberings.{Found, find, injects-all}
@@ -73,6 +73,16 @@ Local n key = (p q : ℕ → ℕ) → ((i : ℕ) → i < n → p i ≡ q i) → 
 -- every place is taken: p itself is all that goes on from it
 covers-leaf : {n k : ℕ} {key : (ℕ → ℕ) → List ℕ} → Local n key → k ≡ n → (p : List ℕ) {z : List ℕ} → z ≼ key (at p) → Covers n key k p z
 covers-leaf local e p h q nq x = rw (local q (at p) (λ i l. x i (omega arith))) h
+
+-- z is at most the key of each numbering that goes on from k places of p with a node below v at place k
+abbrev pub Below : ℕ → ((ℕ → ℕ) → List ℕ) → ℕ → List ℕ → ℕ → List ℕ → Type 0
+Below n key k p v z = (q : ℕ → ℕ) → Numbering n q → Extends k p q → q k < v → z ≼ key q
+
+-- from b to c, with the nodes below v tried at place k
+pub record Partly (n : ℕ) (key : (ℕ → ℕ) → List ℕ) (k : ℕ) (p b : List ℕ) (v : ℕ) (c : List ℕ) : Type 0 where
+  pub numbering : IsNumbering n c
+  pub no-worse : key (at c) ≼ key (at b)
+  pub below : Below n key k p v (key (at c))
 
 module _ {n : ℕ} {key : (ℕ → ℕ) → List ℕ} {k : ℕ} {p b : List ℕ} where
   pub improves-worse : Local n key → k ≡ n → IsNumbering n b → key (at b) ≼ key (at p) → Improves n key k p b b

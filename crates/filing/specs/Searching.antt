@@ -15,21 +15,12 @@ pub record IsNumbering (n : ℕ) (p : List ℕ) : Type 0 where
 abbrev pub Extends : ℕ → List ℕ → (ℕ → ℕ) → Type 0
 Extends k p q = (i : ℕ) → i < k → q i ≡ at p i
 
--- z is at most the key of each numbering that goes on from k places of p; or of those with a node below v at place k
+-- z is at most the key of each numbering that goes on from k places of p
 abbrev pub Covers : ℕ → ((ℕ → ℕ) → List ℕ) → ℕ → List ℕ → List ℕ → Type 0
 Covers n key k p z = (q : ℕ → ℕ) → Numbering n q → Extends k p q → z ≼ key q
-
-abbrev pub Below : ℕ → ((ℕ → ℕ) → List ℕ) → ℕ → List ℕ → ℕ → List ℕ → Type 0
-Below n key k p v z = (q : ℕ → ℕ) → Numbering n q → Extends k p q → q k < v → z ≼ key q
 
 -- from b to r: r is a numbering, no worse than b, and covers what goes on from k places of p
 pub record Improves (n : ℕ) (key : (ℕ → ℕ) → List ℕ) (k : ℕ) (p b r : List ℕ) : Type 0 where
   pub numbering : IsNumbering n r
   pub no-worse : key (at r) ≼ key (at b)
   pub covers : Covers n key k p (key (at r))
-
--- from b to c, with the nodes below v tried at place k
-pub record Partly (n : ℕ) (key : (ℕ → ℕ) → List ℕ) (k : ℕ) (p b : List ℕ) (v : ℕ) (c : List ℕ) : Type 0 where
-  pub numbering : IsNumbering n c
-  pub no-worse : key (at c) ≼ key (at b)
-  pub below : Below n key k p v (key (at c))

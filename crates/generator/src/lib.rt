@@ -1,4 +1,4 @@
-// `Cd::generator`: the point whose images are the vertices.
+// `Cd::generator`: the point that the mirrors and the nodes' values give, as the Rust computes it.
 use cd::Cd;
 use cd::LIMIT;
 use cd::Node;

@@ -2,4 +2,5 @@
 pub mod Reads
 pub mod Files
 pub mod ReadsRecord
+pub mod Answers
 pub mod Filings

@@ -7,7 +7,7 @@ use native.Mathlib.Numerals.{sub-one}
 use native.Mathlib.Omega.{arith}
 use borrow.Author.Tests.{lt-ltb, le-ltb}
 use Rattle.io.specs.Digits.{digits, Fewest}
-use Rattle.lines.specs.Answers.{inDigits, numeral}
+use Rattle.lexicon.specs.Answers.{inDigits, numeral}
 
 -- as many digits as hold every number of a size are enough
 module _ (b least most n r : ℕ) (pos : 0 < b) (l : least ≤ most) (h : n < b ^ most) (f : Fewest b least n r) where

@@ -12,7 +12,7 @@ use Rattle.parse.specs.Reading.{Reading, Accepted, Refused, answer}
 use Rattle.parse.specs.declared.Answer.the-variants as said
 use Rattle.parse.specs.declared.Read.{Read}
 use Rattle.scan.specs.Ascii.{ascii}
-use Rattle.lines.specs.Answers.{spaced, answerOf}
+use Rattle.lexicon.specs.Answers.{spaced, answerOf}
 use Rattle.lines.specs.Written.{Adds}
 use Rattle.lines.proofs.Writing.{adds-then}
 

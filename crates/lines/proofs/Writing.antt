@@ -8,7 +8,7 @@ use native.Mathlib.Numerals.{add-one}
 use native.Mathlib.Omega.{arith}
 use lib.ListN.{length, take, getD, set, length-append}
 use lib.Seq.{take-suc, take-all, take-suc-set}
-use Rattle.lines.specs.Answers.{numeral, spaced}
+use Rattle.lexicon.specs.Answers.{numeral, spaced}
 use Rattle.lines.specs.Written.{Adds}
 
 pub adds-none : (a : List ℕ) (i : ℕ) → Adds a i a i []

@@ -1,4 +1,3 @@
 -- Document 01, "Texts to try", what it says of the program `cdlist`.
 pub mod Lines
-pub mod Answers
 pub mod Written

@@ -9,7 +9,7 @@ ghost use lib.ListN.{length, take, drop};
 ghost use Rattle.float.specs.Pick.{pick};
 ghost use Rattle.parse.specs.Reading as parse;
 ghost use Rattle.lines.specs.Lines.{lineEnd};
-ghost use Rattle.lines.specs.Answers.{numeral, spaced, answerOf};
+ghost use Rattle.lexicon.specs.Answers.{numeral, spaced, answerOf};
 ghost use Rattle.lines.specs.Written.{Adds};
 
 // The place of the first LF from `from` on, or the length.

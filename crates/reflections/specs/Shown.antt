@@ -1,4 +1,4 @@
--- How the code holds reflections: past the count there are zeros.
+-- How the code holds reflections: each goes on past the count as the unit matrix, and past the last mirror there are zeros.
 use mathlib.Core.Bool.{_&&_}
 use Prim.Native.Nat.{ℕ}
 use lib.Dec.{ltb, eqb}

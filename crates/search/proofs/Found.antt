@@ -10,9 +10,8 @@ use native.Mathlib.Omega.{arith}
 use lib.ListN.{length, drop, set, length-set}
 use lib.Seq.{drop-set-lt}
 use Rattle.filing.proofs.Numberings.{Found}
-use Rattle.filing.proofs.Searching.{length-plain, plain-front, put-injects, improves-worse, improves-better, partly-start, partly-used, partly-free, partly-done}
+use Rattle.filing.proofs.Searching.{Partly, length-plain, plain-front, put-injects, improves-worse, improves-better, partly-start, partly-used, partly-free, partly-done}
 use Rattle.filing.specs.Numberings.{at, plain}
-use Rattle.filing.specs.Searching.{Partly}
 use Rattle.tables.proofs.TableLayouts.{table-local}
 use Rattle.tables.specs.Tables.{tableLayout}
 use Rattle.tables.specs.declared.Tables.{Tables}

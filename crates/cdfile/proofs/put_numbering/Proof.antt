@@ -5,7 +5,7 @@ use mathlib.Core.Path.{_≡_, refl, _∙_}
 use native.Mathlib.Omega.{arith}
 use lib.ListN.{length, take}
 use borrow.Author.Needs.{needs, fits-under}
-use Rattle.lines.specs.Answers.{glyph}
+use Rattle.lexicon.specs.Answers.{glyph}
 use Rattle.lines.specs.Written.{Adds}
 use Rattle.lines.proofs.Writing.{adds-none}
 use Rattle.cdfile.proofs.Digits.{adds-place}

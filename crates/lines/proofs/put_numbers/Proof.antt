@@ -4,7 +4,7 @@ use mathlib.Core.Path.{_≡_, refl, _∙_}
 use native.Mathlib.Omega.{arith}
 use lib.ListN.{length, take}
 use borrow.Author.Needs.{needs, below-field}
-use Rattle.lines.specs.Answers.{spaced}
+use Rattle.lexicon.specs.Answers.{spaced}
 use Rattle.lines.specs.Written.{Adds}
 use Rattle.lines.proofs.Writing.{adds-none, adds-figure}
 use Rattle.lines.proofs.put_numbers.Statement.{statement}
