@@ -1,15 +1,20 @@
--- Document 01, "Texts to try": what `cdlist` writes on a text, with "LF after each line".
+-- Document 01, "Texts to try": the program `cdlist` "reads the first 65,536 bytes of standard input and no more, a text a line". What it writes on them.
 use Prim.Native.Nat.{ℕ}
 use mathlib.Core.Bool.{Bool}
 use mathlib.Core.List.{List, _++_}
-use Rattle.lexicon.specs.Reads.{Marks}
+use mathlib.Core.Path.{_≡_}
 use Rattle.lexicon.specs.Answers.{answerOf}
-use Rattle.lines.specs.Written.{Adds}
+use Rattle.lexicon.specs.Reads.{Marks}
+use Rattle.lines.specs.Lines.{lines, Answered}
 use Rattle.parse.specs.Reading.{read}
 use Rattle.scan.specs.Ascii.{ascii}
 
--- the line of a text is added to the buffer
-pub record Lists (text before : List ℕ) (at : ℕ) (after : List ℕ) (to : ℕ) : Type 0 where
+-- what is written on a text, with "LF after each line"
+pub record Listed (text bytes : List ℕ) : Type 0 where
   pub minimal : Bool
   pub mark : Marks (read text) minimal
-  pub line : Adds before at after to (answerOf (read text) minimal ++ ascii "\n")
+  pub line : bytes ≡ answerOf (read text) minimal ++ ascii "\n"
+
+-- the whole output on an input
+abbrev pub Lists : List ℕ → List ℕ → Type 0
+Lists input output = Answered Listed (lines input) output

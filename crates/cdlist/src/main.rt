@@ -1,28 +1,52 @@
 // Document 01's program `cdlist`: a text a line from the first 65,536 bytes of standard input, and the answer on each.
-ghost use Prim.Native.Nat.{_+_, _≤_};
+use lines::Block;
+ghost use Prim.Native.Nat.{_+_, _≤_, _<_};
 ghost use lib.ListN.{length};
-ghost use Rattle.cdlist.specs.Lists.{Lists};
+ghost use Rattle.cdlist.specs.Lists.{Listed};
+ghost use Rattle.lines.specs.Blocks.{IsBlock};
+ghost use Rattle.lines.specs.Written.{AddsLine};
+
+// The most bytes of an answer with its LF.
+const LINE: usize = 87;
 
 fn line(text: &[u8], out: &mut [u8], at: usize) -> usize
     requires { ⌜ at + 87 ≤ length (now out) ⌝ }
-    ensures { λ r. ⌜ Lists (now (text .entry)) (now (out .entry)) at (now (out .exit)) r × (r ≤ at + 87) ⌝ }
+    ensures { λ r. ⌜ AddsLine Listed (now (text .entry)) (now (out .entry)) at (now (out .exit)) r × (r ≤ at + 87) ⌝ }
 {
     let r = lexicon::read(text);
     let to = lines::put_answer(out, at, r);
     lines::put(out, to, b'\n')
 }
 
+// Answers lines from `from` on, as many as the buffer has room for.
+fn block(s: &[u8], from: usize, out: &mut [u8]) -> Block
+    requires { ⌜ (from < length (now s)) × (87 ≤ length (now out)) ⌝ }
+    ensures { λ r. ⌜ IsBlock Listed (now (s .entry)) from (now (out .exit)) (r .next) (r .to) × (from < r .next) × (r .to ≤ length (now (out .exit))) ⌝ }
+{
+    let mut i = from;
+    let mut to = 0;
+    while i < s.len() {
+        if out.len() - to < LINE {
+            return Block { next: i, to: to };
+        }
+        let end = lines::line_end(s, i);
+        to = line(&s[i..end], out, to);
+        i = end + 1;
+    }
+    Block { next: i, to: to }
+}
+
 fn main() {
     let mut text = io::large_buffer();
-    let n = io::read_full(0, &mut text);
+    let n = lines::read_input(&mut text);
     let mut out = lines::buffer();
-    let mut at = 0;
     let mut from = 0;
     while from < n {
-        let end = lines::line_end(&text[..n], from);
-        at = line(&text[from..end], &mut out, at);
-        at = lines::flushed(&out, at);
-        from = end + 1;
+        let b = block(&text[..n], from, &mut out);
+        let to = b.to;
+        if !lines::write_output(&out[..to]) {
+            return;
+        }
+        from = b.next;
     }
-    io::write_all(1, &out[..at]);
 }

@@ -1,16 +1,53 @@
-// What the programs share: a text a line, and answers gathered in a buffer.
+// What the programs share: input and output that fail aloud, a text a line, and answers gathered in a buffer.
 use cd::Numbers;
 use lexicon::Reading;
 use parse::Answer;
 ghost use Prim.Native.Nat.{_+_, _≤_, _<_};
 ghost use mathlib.Core.List.{[], _∷_};
 ghost use mathlib.Core.Path.{_≡_};
+ghost use lib.Dec.{leb};
 ghost use lib.ListN.{length, take, drop};
+ghost use Rattle.io.specs.Counts.{Counts};
 ghost use Rattle.float.specs.Pick.{pick};
 ghost use Rattle.parse.specs.Reading as parse;
 ghost use Rattle.lines.specs.Lines.{lineEnd};
 ghost use Rattle.lexicon.specs.Answers.{numeral, spaced, answerOf};
 ghost use Rattle.lines.specs.Written.{Adds};
+
+// Says a line on standard error: a program has no exit status.
+pub fn say(line: &[u8]) {
+    io::write_all(2, line);
+}
+
+// Reads standard input until the buffer is full or the input ends, and answers how many bytes it put at the start of the buffer. Where a read fails it says so
+// and answers 0: what was read may end within a text.
+pub fn read_input(buf: &mut [u8]) -> usize
+    ensures { λ r. ⌜ Counts r (now (buf .exit)) ⌝ }
+{
+    let mut done = 0;
+    while done < buf.len() {
+        let got = libc::read(0, &mut buf[done..]);
+        if got < 0 {
+            say(b"standard input could not be read, and nothing of it is answered\n");
+            return 0;
+        }
+        let more = io::count(got, &buf[done..]);
+        if more == 0 {
+            return done;
+        }
+        done += more;
+    }
+    done
+}
+
+// Writes to standard output. Where that fails it says so and answers false.
+pub fn write_output(bytes: &[u8]) -> bool {
+    if io::write_all(1, bytes) {
+        return true;
+    }
+    say(b"standard output could not be written to the end\n");
+    false
+}
 
 // The place of the first LF from `from` on, or the length.
 pub fn line_end(s: &[u8], from: usize) -> usize
@@ -37,13 +74,19 @@ pub fn buffer() -> [u8; 16384]
 // Writes the answers that wait once they take half the buffer, so that any further answer has room. Answers how many bytes wait then.
 pub fn flushed(out: &[u8], at: usize) -> usize
     requires { ⌜ at ≤ length (now out) ⌝ }
-    ensures { λ r. ⌜ (r ≤ 8192) × (r ≤ at) ⌝ }
+    ensures { λ r. ⌜ (r ≡ pick (leb at 8192) at 0) × (r ≤ 8192) ⌝ }
 {
     if at <= 8192 {
         return at;
     }
-    io::write_all(1, &out[..at]);
+    write_output(&out[..at]);
     0
+}
+
+// A block of answers in a buffer: the place in the input where the next one starts, and how many bytes of the buffer it takes.
+pub struct Block {
+    pub next: usize,
+    pub to: usize,
 }
 
 pub fn put(out: &mut [u8], at: usize, b: u8) -> usize

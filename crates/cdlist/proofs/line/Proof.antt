@@ -1,4 +1,5 @@
 -- `cdlist::line` meets its contract. Assumes nothing.
+use mathlib.Core.Path.{refl}
 use Rattle.lines.proofs.Writing.{adds-then}
 use Rattle.scan.specs.Ascii.{ascii}
 use borrow.Author.Needs.{needs}
@@ -23,7 +24,11 @@ returns c =
     let p = c .before .before in
     let a = p .before .before .before .before in
     let r = a .before .before in
-    (record { minimal = r .read .result .minimal; mark = r .read .ensures .minimal; line = adds-then _ _ (a .put-answer .ensures .0 _ (r .read .ensures .answer)) (p .put .ensures) }, search needs)
+    (record {
+      bytes = _;
+      allowed = record { minimal = r .read .result .minimal; mark = r .read .ensures .minimal; line = refl };
+      added = adds-then _ _ (a .put-answer .ensures .0 _ (r .read .ensures .answer)) (p .put .ensures);
+    }, search needs)
 
 pub line-spec : {M : Type 1} → statement M
 line-spec = tie.close (tie.spec read-requires put-answer-requires put-requires same-length returns)
