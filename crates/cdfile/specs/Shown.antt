@@ -1,10 +1,12 @@
 -- The program `cdfile`: "`ok`, the record's 740 lower-case hexadecimal digits, a space, and the numbering as n decimal digits (nothing for no nodes); or `no` and
 -- the refusal as `cdlist` writes it", with LF after each line.
-use Prim.Native.Nat.{ℕ, _+_, _-_, _/_, _%_, _≤_}
+use Prim.Native.Nat.{ℕ, _+_, _-_, _/_, _%_, _≤_, _<_}
 use Prim.Native.Char.{code}
 use mathlib.Core.List.{List, [], _∷_, _++_, map}
+use mathlib.Core.Logic.{_≢_}
+use mathlib.Core.Path.{_≡_}
 use lib.Dec.{ltb}
-use lib.ListN.{length, take}
+use lib.ListN.{length, take, getD}
 use Rattle.float.specs.Pick.{pick}
 use Rattle.cd.specs.Diagrams.{limit}
 use Rattle.cd.specs.Refusals.{numberOf}
@@ -40,3 +42,9 @@ pub record Shows (text before : List ℕ) (at : ℕ) (after : List ℕ) (to : �
   pub files : Files text out out′ filed
   pub long : recordLength limit ≤ length out
   pub line : Adds before at after to (shown (filed .answer) (take (recordLength limit) out′) (take (filed .count) (filed .numbering)) ++ ascii "\n")
+
+-- r is the place after the last LF, or 0
+pub record LastEnd (s : List ℕ) (r : ℕ) : Type 0 where
+  pub within : r ≤ length s
+  pub ended : 0 < r → getD s (r - 1) 0 ≡ code "\n"
+  pub last : (i : ℕ) → r ≤ i → i < length s → getD s i 0 ≢ code "\n"

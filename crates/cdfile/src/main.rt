@@ -9,7 +9,7 @@ ghost use mathlib.Core.Path.{_≡_};
 ghost use Prim.Native.Nat.{ℕ, _+_, _*_, _≤_, _<_};
 ghost use lib.ListN.{length, getD, take};
 ghost use Rattle.cd.specs.Diagrams.{limit};
-ghost use Rattle.cdfile.specs.Shown.{hexGlyph, hexes, shown, Shows};
+ghost use Rattle.cdfile.specs.Shown.{hexGlyph, hexes, shown, Shows, LastEnd};
 ghost use Rattle.lexicon.specs.Answers.{glyph as the-glyph};
 ghost use Rattle.lines.specs.Written.{Adds};
 
@@ -81,9 +81,36 @@ fn line(text: &[u8], out: &mut [u8], at: usize) -> usize
     lines::put(out, to, b'\n')
 }
 
+// The place after the last LF, 0 if there is none.
+fn last_end(s: &[u8]) -> usize
+    ensures { λ r. ⌜ LastEnd (now (s .entry)) r ⌝ }
+{
+    let mut k = s.len();
+    while 0 < k {
+        if s[k - 1] == b'\n' {
+            return k;
+        }
+        k -= 1;
+    }
+    0
+}
+
+// How many of the bytes read are to be filed: where more may follow than the buffer holds, those up to the last LF, so that no text is cut.
+fn to_file(text: &[u8]) -> usize
+    ensures { λ r. ⌜ r ≤ length (now (text .entry)) ⌝ }
+{
+    let mut next = [0u8; 1];
+    if text.len() < 65536 || libc::read(0, &mut next) == 0 {
+        return text.len();
+    }
+    lines::say(b"cdfile stops after 65,536 bytes, and files no line that goes on behind them\n");
+    last_end(text)
+}
+
 fn main() {
     let mut text = io::large_buffer();
-    let n = io::read_full(0, &mut text);
+    let read = lines::read_input(&mut text);
+    let n = to_file(&text[..read]);
     let mut out = lines::buffer();
     let mut at = 0;
     let mut from = 0;
@@ -93,5 +120,5 @@ fn main() {
         at = lines::flushed(&out, at);
         from = end + 1;
     }
-    io::write_all(1, &out[..at]);
+    lines::write_output(&out[..at]);
 }

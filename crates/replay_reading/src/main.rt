@@ -141,7 +141,7 @@ fn line(text: &[u8], out: &mut [u8], at: usize) -> usize
 
 fn main() {
     let mut text = io::large_buffer();
-    let n = io::read_full(0, &mut text);
+    let n = lines::read_input(&mut text);
     let mut out = lines::buffer();
     let mut at = 0;
     let mut from = 0;
@@ -151,5 +151,5 @@ fn main() {
         at = lines::flushed(&out, at);
         from = end + 1;
     }
-    io::write_all(1, &out[..at]);
+    lines::write_output(&out[..at]);
 }

@@ -16,11 +16,11 @@ abbrev μ-loop : tie.MeasureT-loop
 large-buffer-requires : tie.Need-large-buffer-requires Inv-loop μ-loop
 large-buffer-requires c κs = search needs
 
-slice-aggregate-read-full : tie.Need-slice-aggregate-read-full Inv-loop μ-loop
-slice-aggregate-read-full c = search needs
+slice-aggregate-read-input : tie.Need-slice-aggregate-read-input Inv-loop μ-loop
+slice-aggregate-read-input c = search needs
 
-read-full-requires : tie.Need-read-full-requires Inv-loop μ-loop
-read-full-requires c κs = search needs
+read-input-requires : tie.Need-read-input-requires Inv-loop μ-loop
+read-input-requires c κs = search needs
 
 buffer-requires : tie.Need-buffer-requires Inv-loop μ-loop
 buffer-requires c κs = search needs
@@ -70,11 +70,11 @@ loop-again c = search needs
 array-share-prefix-out : tie.Need-array-share-prefix-out Inv-loop μ-loop
 array-share-prefix-out c = search needs
 
-slice-aggregate-write-all : tie.Need-slice-aggregate-write-all Inv-loop μ-loop
-slice-aggregate-write-all c = let l = c .before .before .loop in sym (length-take-le (l .at) (l .out) (search needs))
+slice-aggregate-write-output : tie.Need-slice-aggregate-write-output Inv-loop μ-loop
+slice-aggregate-write-output c = let l = c .before .before .loop in sym (length-take-le (l .at) (l .out) (search needs))
 
-write-all-requires : tie.Need-write-all-requires Inv-loop μ-loop
-write-all-requires c κs = search needs
+write-output-requires : tie.Need-write-output-requires Inv-loop μ-loop
+write-output-requires c κs = search needs
 
 returns : tie.Need-returns Inv-loop μ-loop
 returns c = search needs
@@ -86,8 +86,8 @@ main-spec =
     Inv-loop
     μ-loop
     large-buffer-requires
-    slice-aggregate-read-full
-    read-full-requires
+    slice-aggregate-read-input
+    read-input-requires
     buffer-requires
     loop-holds
     array-share-prefix-text
@@ -104,6 +104,6 @@ main-spec =
     loop-less
     loop-again
     array-share-prefix-out
-    slice-aggregate-write-all
-    write-all-requires
+    slice-aggregate-write-output
+    write-output-requires
     returns)
