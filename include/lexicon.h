@@ -1,34 +1,38 @@
 /* Coxeter diagrams in line notation and their filing records: the calls of crates/lexicon for C, proved in crates/lexicon_c.
  *
  * Each call takes any text, record, family letter and size, and any length of buffer, and ends with an answer or with a refusal. It returns 0 for an
- * answer, or the refusal's number, keeps nothing, allocates nothing, and may be called from any thread; 20 KB of stack were enough for every call. The library is for x86-64.
+ * answer, or the refusal's number, keeps nothing but the processor's floating-point flags, allocates nothing, and may be called from any thread; 20 KB of
+ * stack were enough for every call.
  *
- * What a caller must ensure, and nothing more: a pointer has as many readable, or for a buffer writable, elements behind it as the length beside it
- * says, and may be null if that is 0; `answer` has four writable elements behind it, `numbering` nine; and none of what the pointers point at overlaps.
+ * What a caller must ensure, and nothing more:
+ *   - A pointer is aligned for its element type and has as many readable, or for a buffer writable, elements behind it as the length beside it
+ *     says; it may be null if that is 0. `answer` and `numbering` have as many as their prototypes say. None of what the pointers point at overlaps.
+ *   - The calling convention is that of System V for x86-64.
+ *   - The floating-point environment is C's default: round to nearest, no traps, no flush-to-zero. Rounding down, `(0.1)` files as other bytes.
  *
  * answer[0] is what the call returns. After an answer the rest is what the call tells of it, then zeros; after a refusal the rest is its fields, in the
  * order below, then zeros. A refusal changes no element of a buffer, nor of `numbering`. After an answer a buffer keeps its elements past those written.
  *
- *   number  meaning                                                                                    fields
- *   1       a text of more than 255 bytes                                                              255
- *   2       a byte of 128 or more                                                                      position
- *   3       a parenthesis that is not closed                                                           position
- *   4       the text ends too early                                                                    position
- *   5       a literal or a part of an edge that is no number                                           position
- *   6       a byte that fits nothing, or nan                                                           position
- *   7       an edge that is none                                                                       num, den, position
- *   8       a pair that is joined twice                                                                both nodes
- *   9       a literal outside the range                                                                position
- *   10      a tenth node                                                                               position
- *   11      a reference to a missing node                                                              the edge's place in the queue
+ *   number  meaning                                            fields
+ *   1       a text of more than 255 bytes                      position: 255
+ *   2       a byte of 128 or more                              position: the first such byte
+ *   3       a parenthesis that is not closed                   position: the text's length
+ *   4       the text ends too early                            position: the text's length
+ *   5       a literal or a part of an edge that is no number   position: its last byte; for `()` the `)`, for an empty part the slash before it
+ *   6       a byte that fits nothing, or nan                   position: the byte, or nan's last letter
+ *   7       an edge that is none                               num, den, position: the edge's last byte
+ *   8       a pair that is joined twice                        both nodes, in the order of the second edge
+ *   9       a literal outside the range                        position: the literal's last byte
+ *   10      a tenth node                                       position: its first byte
+ *   11      a reference to a missing node                      the edge's place among all edges of the text
  *   12      a buffer shorter than what the call writes
  *   13      a record that is not 370 bytes long
  *   14      a record that no diagram has
- *   15      mirrors that do not exist                                                                  column
- *   16      an infinite length                                                                         node
+ *   15      mirrors that do not exist                          column: the first that does not fit
+ *   16      an infinite length                                 node: the first such
  *   17      a letter or a size that no family has
  *
- * Positions, nodes and places are counted from 0. 12 comes after all other refusals of a call.
+ * Positions, nodes, columns and places are counted from 0, positions in bytes: `x(1` is 3 at 3. 12 comes after all other refusals of a call.
  */
 #ifndef LEXICON_H
 #define LEXICON_H
@@ -47,7 +51,7 @@ enum {
     LEXICON_DIAGRAM = 153,     /* numbers of a diagram */
     LEXICON_SQUARE = 81,       /* doubles of a matrix or of mirrors */
     LEXICON_GENERATOR = 10,    /* doubles of a generator */
-    LEXICON_REFLECTIONS = 729 /* doubles of reflections */
+    LEXICON_REFLECTIONS = 729  /* doubles of reflections */
 };
 
 /* The diagram of a text. Tells the nodes, the stored edges, and 1 if the diagram is minimal, else 0.
@@ -56,42 +60,42 @@ enum {
  * Node i has out[2 * i], its kind (1 unringed, 2 ringed, 3 snub), and out[2 * i + 1], the 64 bits of its length, 0 if unringed; places past the last node
  * hold 1 and 0. The pair of the nodes i <= j (i = j is a loop) has, from out[18 + 3 * (j * (j + 1) / 2 + i)] on, its edge's rank in the order stored, from
  * 1, its num and its den; three zeros if nothing joins them. */
-size_t lexicon_read(const uint8_t *text, size_t text_len, uint64_t *out, size_t out_len, size_t *answer);
+size_t lexicon_read(const uint8_t *text, size_t text_len, uint64_t *out, size_t out_len, size_t answer[LEXICON_ANSWER]);
 
 /* The record of a text's diagram, 370 bytes. Tells the nodes. numbering[i] is the node that the record has in place i; past the last node it holds i.
  * Refuses with 1 to 11 and 12. It tries every numbering: six nodes take about 0.1 ms, nine 0.1 s, here and in lexicon_read_record. */
-size_t lexicon_write_record(const uint8_t *text, size_t text_len, uint8_t *out, size_t out_len, size_t *numbering, size_t *answer);
+size_t lexicon_write_record(const uint8_t *text, size_t text_len, uint8_t *out, size_t out_len, size_t numbering[LEXICON_LIMIT], size_t answer[LEXICON_ANSWER]);
 
 /* The diagram that has these bytes for its record, in the record's own numbering, laid out as for lexicon_read; the edges i < j rank by rising j, then by
  * rising i. Tells the nodes and the edges.
  * Refuses with 13, 14 and 12. */
-size_t lexicon_read_record(const uint8_t *bytes, size_t bytes_len, uint64_t *out, size_t out_len, size_t *answer);
+size_t lexicon_read_record(const uint8_t *bytes, size_t bytes_len, uint64_t *out, size_t out_len, size_t answer[LEXICON_ANSWER]);
 
 /* The Coxeter matrix of a text's diagram: row r of column c at out[9 * c + r]; past the last node it goes on as that of nodes that nothing joins. Tells the nodes.
  * Refuses with 1 to 11 and 12. */
-size_t lexicon_matrix(const uint8_t *text, size_t text_len, double *out, size_t out_len, size_t *answer);
+size_t lexicon_matrix(const uint8_t *text, size_t text_len, double *out, size_t out_len, size_t answer[LEXICON_ANSWER]);
 
 /* The mirrors of a text's diagram: row r of column c at out[9 * c + r]; past the last node zeros. Tells the nodes.
  * Refuses with 1 to 11, 15 and 12. */
-size_t lexicon_mirrors(const uint8_t *text, size_t text_len, double *out, size_t out_len, size_t *answer);
+size_t lexicon_mirrors(const uint8_t *text, size_t text_len, double *out, size_t out_len, size_t answer[LEXICON_ANSWER]);
 
 /* The generator of a text's diagram: nine coordinates, zeros past the last node, and in out[9] its circumradius. Tells the nodes. As in miratope-core it
  * depends on the order of the nodes: the radii of x3o4o and o4o3x, which are one figure, are 1 and the root of 5.
  * Refuses with 1 to 11, 15, 16 and 12. */
-size_t lexicon_generator(const uint8_t *text, size_t text_len, double *out, size_t out_len, size_t *answer);
+size_t lexicon_generator(const uint8_t *text, size_t text_len, double *out, size_t out_len, size_t answer[LEXICON_ANSWER]);
 
 /* The reflections in the mirrors of a text's diagram: row r of column c of the reflection in mirror m at out[81 * m + 9 * c + r]; past the last node a
  * reflection goes on as the unit matrix, and past the last mirror there are zeros. Tells the nodes.
  * Refuses with 1 to 11, 15 and 12. */
-size_t lexicon_reflections(const uint8_t *text, size_t text_len, double *out, size_t out_len, size_t *answer);
+size_t lexicon_reflections(const uint8_t *text, size_t text_len, double *out, size_t out_len, size_t answer[LEXICON_ANSWER]);
 
 /* The matrix of a family, A, B, D, E or H in upper case, laid out as for lexicon_matrix; past the size it goes on as that of a longer family. Tells the nodes.
  * Refuses with 17 and 12. */
-size_t lexicon_family_matrix(uint8_t letter, size_t size, double *out, size_t out_len, size_t *answer);
+size_t lexicon_family_matrix(uint8_t letter, size_t size, double *out, size_t out_len, size_t answer[LEXICON_ANSWER]);
 
 /* The mirrors of a family, laid out as for lexicon_mirrors. Tells the nodes.
  * Refuses with 17, 15 and 12. */
-size_t lexicon_family_mirrors(uint8_t letter, size_t size, double *out, size_t out_len, size_t *answer);
+size_t lexicon_family_mirrors(uint8_t letter, size_t size, double *out, size_t out_len, size_t answer[LEXICON_ANSWER]);
 
 #ifdef __cplusplus
 }

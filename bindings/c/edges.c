@@ -26,9 +26,9 @@ struct input {
 };
 
 // A call has one of these forms; lexicon_write_record, which alone has a numbering, has none of them.
-typedef size_t to_numbers(const uint8_t *bytes, size_t len, uint64_t *out, size_t out_len, size_t *answer);
-typedef size_t to_doubles(const uint8_t *bytes, size_t len, double *out, size_t out_len, size_t *answer);
-typedef size_t of_family(uint8_t letter, size_t size, double *out, size_t out_len, size_t *answer);
+typedef size_t to_numbers(const uint8_t *bytes, size_t len, uint64_t *out, size_t out_len, size_t answer[LEXICON_ANSWER]);
+typedef size_t to_doubles(const uint8_t *bytes, size_t len, double *out, size_t out_len, size_t answer[LEXICON_ANSWER]);
+typedef size_t of_family(uint8_t letter, size_t size, double *out, size_t out_len, size_t answer[LEXICON_ANSWER]);
 
 struct call {
     const char *name;
@@ -202,8 +202,9 @@ static void refused_texts(void)
         const char *text;
         size_t answer[LEXICON_ANSWER];
     } refused[] = {
-        {"x3(1", {3, 4}}, {"(", {3, 1}}, {"x3", {4, 2}}, {"x ", {4, 2}}, {"*", {4, 1}}, {"*-", {4, 2}},
-        {"()", {5, 1}}, {"x3/o", {5, 2}}, {"x4294967296o", {5, 10}}, {"(nan)", {6, 3}}, {"x3_", {6, 2}}, {"x3\to", {6, 2}},
+        {"x(1", {3, 3}}, {"x3(1", {3, 4}}, {"(", {3, 1}}, {"x3", {4, 2}}, {"x ", {4, 2}}, {"*", {4, 1}}, {"*-", {4, 2}},
+        {"()", {5, 1}}, {"(1x)", {5, 2}}, {"x3/o", {5, 2}}, {"x3//2o", {5, 2}}, {"x4294967296o", {5, 10}},
+        {"(nan)", {6, 3}}, {"(-NaN)", {6, 4}}, {"x3_", {6, 2}}, {"x3\to", {6, 2}},
         {"x1o", {7, 1, 1, 1}}, {"x4294967294/4294967295o", {7, 4294967294, 4294967295, 21}}, {"x3o3*a", {8, 1, 0}}, {"x3*a3*a", {8, 0, 0}},
         {"(1e23)", {9, 4}}, {"oooooooooo", {10, 9}}, {"ooooooooo(1)", {10, 9}}, {"x3*c", {11, 0}}, {"x2*c3o3*c", {11, 1}},
     };
