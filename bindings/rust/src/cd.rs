@@ -11,6 +11,9 @@ use crate::{
 ///
 /// It keeps the text, at most 255 bytes, from which the library computes all else.
 ///
+/// There is no `==`, since it could be taken for that of figures: compare [`Cd::record`] for those,
+/// and [`Cd::diagram`] for nodes and edges as they were read.
+///
 /// ```
 /// use lexicon::{Cd, Edge, Node, StoredEdge};
 ///
@@ -34,12 +37,20 @@ pub struct Cd {
 }
 
 impl Cd {
-    /// Reads a diagram in line notation, or refuses the text with the reason and its position.
+    /// Reads a diagram in line notation.
+    ///
+    /// # Errors
+    ///
+    /// One of the first eleven cases of [`CdError`].
     pub fn parse(input: &str) -> CdResult<Self> {
         Self::parse_bytes(input.as_bytes())
     }
 
     /// Reads a diagram from bytes that need not be UTF-8, such as those of a file or a request.
+    ///
+    /// # Errors
+    ///
+    /// As [`Cd::parse`].
     ///
     /// ```
     /// use lexicon::{Cd, CdError};
@@ -59,26 +70,31 @@ impl Cd {
     }
 
     /// The text, as it was typed.
+    #[must_use]
     pub fn text(&self) -> &str {
         &self.text
     }
 
     /// The nodes and edges, as plain data.
+    #[must_use]
     pub fn diagram(&self) -> &Diagram {
         &self.diagram
     }
 
     /// The dimension of the polytope, which is the number of nodes.
+    #[must_use]
     pub fn dim(&self) -> usize {
         self.node_count()
     }
 
     /// The number of nodes, 0 to 9.
+    #[must_use]
     pub fn node_count(&self) -> usize {
         self.diagram.nodes.len()
     }
 
     /// The number of stored edges, loops included.
+    #[must_use]
     pub fn edge_count(&self) -> usize {
         self.diagram.edges.len()
     }
@@ -89,17 +105,26 @@ impl Cd {
     }
 
     /// The nodes, in the order in which they were read.
+    #[must_use]
     pub fn nodes(&self) -> Vec<Node> {
         self.diagram.nodes.clone()
     }
 
+    /// The lengths of the nodes, in the order in which they were read, 0 for the unringed.
+    #[must_use]
+    pub fn node_vector(&self) -> Vec<f64> {
+        self.node_iter().map(|node| node.value()).collect()
+    }
+
     /// The stored edges with the nodes that they join, in the order in which they were stored,
     /// loops included.
+    #[must_use]
     pub fn edges(&self) -> Vec<StoredEdge> {
         self.diagram.edges.clone()
     }
 
     /// Whether each connected component has a ringed node. Snub nodes do not count.
+    #[must_use]
     pub fn minimal(&self) -> bool {
         self.minimal
     }
@@ -117,6 +142,7 @@ impl Cd {
     /// assert_ne!(octahedron, Cd::parse("x4o3o")?.record());
     /// # Ok::<(), lexicon::CdError>(())
     /// ```
+    #[must_use]
     pub fn record(&self) -> Record {
         self.record_and_numbering().0
     }
@@ -132,23 +158,28 @@ impl Cd {
     /// assert_eq!(record, Cd::parse("o4o3x")?.record());
     /// # Ok::<(), lexicon::CdError>(())
     /// ```
+    #[must_use]
     pub fn record_and_numbering(&self) -> (Record, Vec<usize>) {
         let (bytes, numbering) = answered(ffi::write_record(self.text.as_bytes()));
-        (Record::from_library(bytes), numbering)
+        (Record::from_trusted_bytes(&bytes), numbering)
     }
 
     /// The Coxeter matrix: 1 on the diagonal, an edge's value where it joins two nodes, else 2.
+    #[must_use]
     pub fn cox(&self) -> Cox {
         answered(Cox::parse(&self.text))
     }
 
     /// The generator point as miratope-core computes it: the x for which the matrix of
-    /// [`Cox::normals`], times x, is the vector of the nodes' lengths. It is refused with
-    /// [`CdError::Crowded`] if the mirrors don't exist, and with [`CdError::Infinite`] if a length
-    /// is infinite.
+    /// [`Cox::normals`], times x, is [`Cd::node_vector`].
     ///
     /// It depends on the order of the nodes. Two texts of one figure may have different points, and
     /// different radii: those of `x3o4o` and `o4o3x` are 1 and √5.
+    ///
+    /// # Errors
+    ///
+    /// [`CdError::Crowded`] if the mirrors don't exist, else [`CdError::Infinite`] if a length is
+    /// infinite.
     ///
     /// ```
     /// use lexicon::{Cd, CdError};
@@ -169,14 +200,20 @@ impl Cd {
         })
     }
 
-    /// The radius of [`Cd::generator`]. It is refused as that is, and depends on the order of the
-    /// nodes as that does.
+    /// The radius of [`Cd::generator`], which depends on the order of the nodes as that does.
+    ///
+    /// # Errors
+    ///
+    /// As [`Cd::generator`].
     pub fn circumradius(&self) -> CdResult<f64> {
         self.generator().map(|point| point.radius())
     }
 
     /// The reflections in the mirrors, one matrix for each node, which generate the Coxeter group.
-    /// They are refused as [`Cox::normals`] is.
+    ///
+    /// # Errors
+    ///
+    /// As [`Cox::normals`].
     ///
     /// ```
     /// use lexicon::Cd;
@@ -232,11 +269,13 @@ pub struct Generator {
 
 impl Generator {
     /// The coordinates, one for each node.
+    #[must_use]
     pub fn coordinates(&self) -> &[f64] {
         &self.coordinates
     }
 
     /// The distance of the point from the origin.
+    #[must_use]
     pub fn radius(&self) -> f64 {
         self.radius
     }

@@ -10,7 +10,7 @@ use crate::{
 /// The Coxeter matrix of a diagram or of a family. `cox[(i, j)]` is the value of the edge between
 /// nodes i and j, 2 if nothing joins them, and 1 if they are the same node.
 ///
-/// The families A, B, D, E and H have up to nine nodes; other sizes are refused.
+/// The families A, B, D, E and H have up to nine nodes.
 ///
 /// ```
 /// use lexicon::{CdError, Cox};
@@ -38,6 +38,10 @@ enum Source {
 
 impl Cox {
     /// Reads a diagram and turns it into its matrix.
+    ///
+    /// # Errors
+    ///
+    /// As [`Cd::parse`](crate::Cd::parse).
     pub fn parse(input: &str) -> CdResult<Self> {
         let (square, [dim, ..]) = ffi::matrix(input.as_bytes())?;
         Ok(Self {
@@ -47,28 +51,48 @@ impl Cox {
     }
 
     /// The matrix of the group An, for n from 1 to 9: a chain of 3s.
+    ///
+    /// # Errors
+    ///
+    /// [`CdError::NoFamily`](crate::CdError::NoFamily) for another n.
     pub fn a(n: usize) -> CdResult<Self> {
         Self::family(b'A', n)
     }
 
     /// The matrix of the group Bn, for n from 2 to 9: a 4, then a chain of 3s.
+    ///
+    /// # Errors
+    ///
+    /// [`CdError::NoFamily`](crate::CdError::NoFamily) for another n.
     pub fn b(n: usize) -> CdResult<Self> {
         Self::family(b'B', n)
     }
 
     /// The matrix of the group Dn, for n from 3 to 9: a chain of 3s from node 1 on, and a 3 between
     /// nodes 0 and 2.
+    ///
+    /// # Errors
+    ///
+    /// [`CdError::NoFamily`](crate::CdError::NoFamily) for another n.
     pub fn d(n: usize) -> CdResult<Self> {
         Self::family(b'D', n)
     }
 
     /// The matrix of the group En, for n from 4 to 9: a chain of 3s from node 1 on, and a 3 between
     /// nodes 0 and 3.
+    ///
+    /// # Errors
+    ///
+    /// [`CdError::NoFamily`](crate::CdError::NoFamily) for another n.
     pub fn e(n: usize) -> CdResult<Self> {
         Self::family(b'E', n)
     }
 
     /// The matrix of the group Hn, for n from 2 to 9: a 5, then a chain of 3s.
+    ///
+    /// # Errors
+    ///
+    /// [`CdError::NoFamily`](crate::CdError::NoFamily) for another n.
     pub fn h(n: usize) -> CdResult<Self> {
         Self::family(b'H', n)
     }
@@ -82,13 +106,16 @@ impl Cox {
     }
 
     /// The number of rows, which is that of the nodes.
+    #[must_use]
     pub fn dim(&self) -> usize {
         self.matrix.dim()
     }
 
-    /// The mirrors: an upper triangular matrix whose columns are unit normals to them. They are
-    /// refused with [`CdError::Crowded`](crate::CdError::Crowded) if they do not fit in spherical
-    /// space.
+    /// The mirrors: an upper triangular matrix whose columns are unit normals to them.
+    ///
+    /// # Errors
+    ///
+    /// [`CdError::Crowded`](crate::CdError::Crowded) if they do not fit in spherical space.
     ///
     /// ```
     /// use lexicon::{CdError, Cox};
@@ -121,7 +148,11 @@ impl PartialEq for Cox {
 impl Index<(usize, usize)> for Cox {
     type Output = f64;
 
-    /// The entry of a row and a column. Panics if either is out of range.
+    /// The entry of a row and a column.
+    ///
+    /// # Panics
+    ///
+    /// If either is out of range.
     fn index(&self, at: (usize, usize)) -> &f64 {
         &self.matrix[at]
     }
@@ -144,12 +175,17 @@ impl Matrix {
     }
 
     /// The number of rows, and of columns.
+    #[must_use]
     pub fn dim(&self) -> usize {
         self.dim
     }
 
-    /// The column of this index; of mirrors, the normal of this node's mirror. Panics if it is out
-    /// of range.
+    /// The column of this index; of mirrors, the normal of this node's mirror.
+    ///
+    /// # Panics
+    ///
+    /// If it is out of range.
+    #[must_use]
     pub fn column(&self, column: usize) -> &[f64] {
         assert!(column < self.dim, "column {column} of {}", self.dim);
         &self.entries[self.dim * column..][..self.dim]
@@ -159,7 +195,11 @@ impl Matrix {
 impl Index<(usize, usize)> for Matrix {
     type Output = f64;
 
-    /// The entry of a row and a column. Panics if either is out of range.
+    /// The entry of a row and a column.
+    ///
+    /// # Panics
+    ///
+    /// If either is out of range.
     fn index(&self, (row, column): (usize, usize)) -> &f64 {
         &self.column(column)[row]
     }

@@ -1,11 +1,18 @@
 //! Nodes, edges, and the diagrams that they make.
 
-use std::fmt;
+use std::{
+    fmt,
+    hash::{Hash, Hasher},
+    mem::{self, Discriminant},
+};
 
 use crate::ffi::{DIAGRAM, LIMIT};
 
 /// A node of a diagram: a mirror, and how the generator point lies to it.
-#[derive(Clone, Copy, Debug, PartialEq)]
+///
+/// Nodes are compared by their kind and the bits of their length, as they are filed: `(0)` and
+/// `(-0)` differ.
+#[derive(Clone, Copy, Debug)]
 pub enum Node {
     /// The generator point lies in the mirror.
     Unringed,
@@ -20,6 +27,7 @@ pub enum Node {
 
 impl Node {
     /// The node's length, 0 if it is unringed.
+    #[must_use]
     pub fn value(&self) -> f64 {
         match *self {
             Self::Unringed => 0.0,
@@ -28,8 +36,28 @@ impl Node {
     }
 
     /// Whether this node is ringed. A snub node is not.
+    #[must_use]
     pub fn is_ringed(&self) -> bool {
         matches!(self, Self::Ringed(_))
+    }
+
+    /// What nodes are compared by.
+    fn key(&self) -> (Discriminant<Self>, u64) {
+        (mem::discriminant(self), self.value().to_bits())
+    }
+}
+
+impl PartialEq for Node {
+    fn eq(&self, other: &Self) -> bool {
+        self.key() == other.key()
+    }
+}
+
+impl Eq for Node {}
+
+impl Hash for Node {
+    fn hash<H: Hasher>(&self, state: &mut H) {
+        self.key().hash(state);
     }
 }
 
@@ -48,7 +76,7 @@ impl fmt::Display for Node {
 ///
 /// It holds the numbers that were typed, and is compared by them: `6/2` and `3` are two edges. A
 /// [`Record`](crate::Record) has edges in lowest terms.
-#[derive(Clone, Copy, Debug, PartialEq, Eq)]
+#[derive(Clone, Copy, Debug, PartialEq, Eq, Hash)]
 pub struct Edge {
     /// The numerator.
     pub num: u32,
@@ -59,8 +87,15 @@ pub struct Edge {
 
 impl Edge {
     /// The value as a double.
+    #[must_use]
     pub fn value(&self) -> f64 {
         f64::from(self.num) / f64::from(self.den)
+    }
+
+    /// Whether the numerator is twice the denominator, without wrapping. No stored edge is so.
+    #[must_use]
+    pub fn eq_two(&self) -> bool {
+        u64::from(self.num) == 2 * u64::from(self.den)
     }
 }
 
@@ -76,7 +111,7 @@ impl fmt::Display for Edge {
 }
 
 /// An edge and the nodes that it joins. In a loop they are the same node.
-#[derive(Clone, Copy, Debug, PartialEq, Eq)]
+#[derive(Clone, Copy, Debug, PartialEq, Eq, Hash)]
 pub struct StoredEdge {
     /// The node of the lower index.
     pub a: usize,
@@ -92,7 +127,10 @@ pub struct StoredEdge {
 ///
 /// A [`Cd`](crate::Cd) has one and the text beside it; a diagram that is read back from a
 /// [`Record`](crate::Record) has no text.
-#[derive(Clone, Debug, PartialEq)]
+///
+/// Two diagrams are equal when they have the same nodes and the same edges, in the same order. For
+/// whether they are one figure, compare records.
+#[derive(Clone, Debug, PartialEq, Eq, Hash)]
 pub struct Diagram {
     /// The nodes, in the order read.
     pub nodes: Vec<Node>,
@@ -112,9 +150,10 @@ impl Diagram {
                 let at = 2 * LIMIT + 3 * (b * (b + 1) / 2 + a);
                 let rank = numbers[at];
                 if rank != 0 {
-                    // 32-bit numbers in places of 64
-                    let (num, den) = (numbers[at + 1] as u32, numbers[at + 2] as u32);
-                    let edge = Edge { num, den };
+                    let edge = Edge {
+                        num: part(numbers[at + 1]),
+                        den: part(numbers[at + 2]),
+                    };
                     ranked.push((rank, StoredEdge { a, b, edge }));
                 }
             }
@@ -125,6 +164,12 @@ impl Diagram {
             edges: ranked.into_iter().map(|(_, stored)| stored).collect(),
         }
     }
+}
+
+/// A part of an edge: a 32-bit number, for which the library has a wider place.
+pub(crate) fn part(number: impl TryInto<u32>) -> u32 {
+    let narrow = number.try_into();
+    narrow.unwrap_or_else(|_| unreachable!("lexicon.h has no edge beyond 32 bits"))
 }
 
 fn node(kind: u64, bits: u64) -> Node {

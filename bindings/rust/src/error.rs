@@ -2,6 +2,8 @@
 
 use std::{error::Error, fmt};
 
+use crate::diagram::part;
+
 /// What a call gives, or why it refuses.
 pub type CdResult<T> = Result<T, CdError>;
 
@@ -19,7 +21,7 @@ pub type CdResult<T> = Result<T, CdError>;
 /// let refusal = Cd::parse("x3o3*a").unwrap_err();
 /// assert_eq!(refusal, CdError::RepeatEdge { a: 1, b: 0 });
 /// ```
-#[derive(Clone, Copy, Debug, PartialEq, Eq)]
+#[derive(Clone, Copy, Debug, PartialEq, Eq, Hash)]
 pub enum CdError {
     /// The text has more than 255 bytes.
     TooLong {
@@ -125,6 +127,7 @@ pub enum CdError {
 impl CdError {
     /// The number of this refusal in the specification and in `lexicon.h`, 1 to 17, for logs and
     /// for messages to programs in other languages.
+    #[must_use]
     pub fn number(&self) -> u32 {
         match self {
             Self::TooLong { .. } => 1,
@@ -157,8 +160,8 @@ impl CdError {
             5 => Self::ParseError { pos: a },
             6 => Self::InvalidSymbol { pos: a },
             7 => Self::InvalidEdge {
-                num: a as u32, // the text's numbers are 32-bit, else 5 refuses them
-                den: b as u32,
+                num: part(a), // else 5 refuses the text
+                den: part(b),
                 pos: c,
             },
             8 => Self::RepeatEdge { a, b },

@@ -1,8 +1,10 @@
 //! The calls of include/lexicon.h, and the crate's only unsafe code.
 //!
-//! The header asks of a caller that a pointer has as many elements behind it as the length beside
-//! it says, an answer four and a numbering nine, and that none overlap. Each function below lends
-//! arrays of its own, of these lengths, so it is safe for every argument, and 12 cannot come.
+//! The header asks of a caller that a pointer is aligned and has as many elements behind it as the
+//! length beside it says, an answer four and a numbering nine, and that none overlap. Each function
+//! below lends arrays of its own, of these lengths, so it is safe for every argument, and 12 cannot
+//! come. The calling convention stands in the declarations, and the default floating-point
+//! environment is what Rust itself assumes.
 
 use crate::{CdError, CdResult};
 
@@ -17,10 +19,10 @@ pub const REFLECTIONS: usize = 729;
 /// What a call writes, and the three numbers that it tells of it.
 pub type Written<T, const N: usize> = CdResult<([T; N], [usize; ANSWER - 1])>;
 
-type OfBytes<T> = unsafe extern "C" fn(*const u8, usize, *mut T, usize, *mut usize) -> usize;
-type OfFamily = unsafe extern "C" fn(u8, usize, *mut f64, usize, *mut usize) -> usize;
+type OfBytes<T> = unsafe extern "sysv64" fn(*const u8, usize, *mut T, usize, *mut usize) -> usize;
+type OfFamily = unsafe extern "sysv64" fn(u8, usize, *mut f64, usize, *mut usize) -> usize;
 
-extern "C" {
+extern "sysv64" {
     fn lexicon_read(
         text: *const u8,
         text_len: usize,

@@ -24,16 +24,39 @@
 //! most 15 digits, three exponent digits and a power of ten from −22 to 22. What is beyond a limit
 //! is refused.
 //!
+//! # What it needs
+//!
+//! An x86-64 processor. Of what `lexicon.h` asks of a caller the crate ensures all but the default
+//! floating-point environment (round to nearest, no traps, no flush-to-zero), which a Rust program
+//! has unless C code changed it. Rounding down, `(0.1)` files as other bytes.
+//!
 //! # Coming from miratope-core
+//!
+//! All names stand at the root of the crate, and `Cox<f64>` is [`Cox`].
 //!
 //! | miratope-core | here |
 //! |---|---|
-//! | a panic on `(`, `x ` and `x3*c` | a [`CdError`] |
-//! | `Cd::raw_edges` | [`Cd::edges`] |
-//! | `None` from `Cd::generator`, `Cd::circumradius`, `Cox::normals` | a [`CdError`] with the column or the node |
-//! | `Cox::a(n)`, `b`, `d`, `e`, `h`, of any size or with a panic | a [`CdResult`], sizes up to nine |
-//! | `Cox::gen_iter`, its `gens` | [`Cd::reflections`] |
-//! | `Cd::new`, `Cd::add_node`, `Cd::add_edge`, `Cox::new`, `Cox::link` | none: a diagram comes from a text or from a record |
+//! | `CdBuilder`: `new`, `build` | [`Cd::parse`] |
+//! | `CdResult`; `CdError`, its cases and words | the same, with more cases; what miratope-core panics on, such as `(`, `x ` and `x3*c`, is refused |
+//! | `Cd`: `parse`, `dim`, `node_count`, `edge_count`, `node_iter`, `nodes`, `minimal`, `cox`; its `Display` | the same |
+//! | `Cd::node_vector` | the same, as a `Vec` |
+//! | `Cd::raw_nodes`, `Cd::raw_edges` | [`Cd::diagram`]: its `nodes` and its `edges`, the lower node first |
+//! | `Cd::generator`, `Cd::circumradius` | the same, with a [`CdError`] for `None` and for infinite lengths; the point is a [`Generator`] |
+//! | `Cd::new`, `Default` of a `Cd`, `Cd::add_node`, `Cd::add_edge` | none: a diagram comes from a text or from a record. The text `*a` has no nodes |
+//! | `Node`: its cases, `value`, `is_ringed`; its `Display` | the same; `==` is by bits |
+//! | `Node::ringed`, `Node::snub` | [`Node::Ringed`], [`Node::Snub`] |
+//! | `Node::from_char`, `Node::from_char_or` | [`Cd::parse`] of the letter, and [`Cd::nodes`] of that |
+//! | `Edge`: `num`, `den`, `value`, `eq_two`; its `Display` | the same; `eq_two` does not wrap |
+//! | `Edge::rational`, `Edge::int` | none: an [`Edge`] is plain data, and [`Cd::parse`] tests those of a text |
+//! | `NodeRef`: its cases, `new`, `index`; `EdgeRef`: `first`, `other`, `edge`, `new`, `indices` | none: [`Cd::parse`] finds the nodes that references mean; [`StoredEdge`] has them |
+//! | `Cox`: `parse`, `dim`, `cox[(i, j)]`, `==`; `From<Cd>` for `Cox` | the same |
+//! | `Cox`: `a`, `b`, `d`, `e`, `h` | the same, with a [`CdError`] for a panic and for sizes above nine |
+//! | `Cox::trivial` | [`Cox::a`] of 1 |
+//! | `Cox::from_lin_diagram_iter`; `Cox::from_lin_diagram` and `Cox::i2`, which panic | [`Cox::parse`] of the chain as a text, such as `o7o` |
+//! | `Cox::normals` | the same, as a [`Matrix`], with a [`CdError`] for `None` |
+//! | `Cox::gen_iter`, its `gens` | [`Cd::reflections`], for a family those of its text |
+//! | `Cox::gen_iter`, its walk; `Cox::group` | none: groups are not in the specification |
+//! | `Cox`: `new`, `link`, `iter_mut`, `cox[(i, j)] = ..` | none: the library takes no matrix |
 //!
 //! Cosines and sums are those of the specification, so that every machine computes the same doubles;
 //! the last bits may differ from those of nalgebra and of the machine's cosine.

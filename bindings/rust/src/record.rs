@@ -9,8 +9,9 @@ use crate::{
 
 /// The filing record of a figure, 370 bytes.
 ///
-/// Every value of this type is the record of some diagram: it comes from [`Cd::record`], or from
-/// bytes or digits that the library has read back. Records are ordered byte by byte.
+/// It comes from [`Cd::record`], or from bytes or digits that the library has read back, and is
+/// then the record of some diagram; only [`Record::from_trusted_bytes`] leaves that to its caller.
+/// Records are ordered byte by byte.
 ///
 /// As a text it is 740 hexadecimal digits, written in lower case and read in either:
 ///
@@ -44,14 +45,13 @@ impl Record {
     /// How many bytes a record has.
     pub const LEN: usize = RECORD;
 
-    /// Takes bytes that the library wrote.
-    pub(crate) fn from_library(bytes: [u8; Self::LEN]) -> Self {
-        Self(bytes)
-    }
-
-    /// Takes the bytes of a record, or refuses them with [`CdError::RecordLength`] or
-    /// [`CdError::NoDiagram`]. It takes the time of [`Cd::record`](crate::Cd::record), since the
-    /// bytes must be the smallest that any numbering gives.
+    /// Takes the bytes of a record, in the time of [`Cd::record`](crate::Cd::record), since they must
+    /// be the smallest that any numbering gives.
+    ///
+    /// # Errors
+    ///
+    /// [`CdError::RecordLength`] if there are not 370 of them, [`CdError::NoDiagram`] if no diagram
+    /// has them.
     ///
     /// ```
     /// use lexicon::{Cd, CdError, Record};
@@ -68,13 +68,37 @@ impl Record {
         bytes.map(Self).map_err(|_| CdError::RecordLength)
     }
 
+    /// Takes bytes unchecked, for a program that loads records which this library wrote: it copies
+    /// them, where [`Record::from_bytes`] would try every numbering.
+    ///
+    /// Given other bytes, it returns a key of no figure, of another figure, or a second key of one,
+    /// and [`Record::diagram`] panics unless a diagram has them.
+    ///
+    /// ```
+    /// use lexicon::{Cd, Record};
+    ///
+    /// let record = Cd::parse("x4o3o")?.record();
+    /// let stored: Vec<u8> = record.as_bytes().to_vec();
+    /// assert_eq!(Record::from_trusted_bytes(stored[..].try_into()?), record);
+    /// # Ok::<(), Box<dyn std::error::Error>>(())
+    /// ```
+    #[must_use]
+    pub fn from_trusted_bytes(bytes: &[u8; Self::LEN]) -> Self {
+        Self(*bytes)
+    }
+
     /// The bytes, for a file or a database.
+    #[must_use]
     pub fn as_bytes(&self) -> &[u8; Self::LEN] {
         &self.0
     }
 
     /// The diagram, in the record's own numbering, its edges in lowest terms and without loops. It
     /// takes the time of [`Record::from_bytes`].
+    ///
+    /// # Panics
+    ///
+    /// If [`Record::from_trusted_bytes`] was given bytes that no diagram has.
     ///
     /// ```
     /// use lexicon::{Cd, Node};
@@ -84,11 +108,28 @@ impl Record {
     /// assert_eq!(diagram.edges[0].edge.to_string(), "4");
     /// # Ok::<(), lexicon::CdError>(())
     /// ```
+    #[must_use]
     pub fn diagram(&self) -> Diagram {
         match ffi::read_record(&self.0) {
             Ok((numbers, [nodes, ..])) => Diagram::from_numbers(&numbers, nodes),
-            Err(e) => unreachable!("a record that was accepted or written was refused: {e}"),
+            Err(e) => panic!("a record of trusted bytes was refused: {e}"),
         }
+    }
+}
+
+impl AsRef<[u8]> for Record {
+    /// As [`Record::as_bytes`].
+    fn as_ref(&self) -> &[u8] {
+        &self.0
+    }
+}
+
+impl TryFrom<&[u8]> for Record {
+    type Error = CdError;
+
+    /// As [`Record::from_bytes`].
+    fn try_from(bytes: &[u8]) -> CdResult<Self> {
+        Self::from_bytes(bytes)
     }
 }
 
@@ -118,8 +159,9 @@ impl FromStr for Record {
         let mut bytes = [0; Self::LEN];
         for (pos, &byte) in text.as_bytes().iter().enumerate() {
             let digit = char::from(byte).to_digit(16);
-            let digit = digit.ok_or(RecordError::Digit { pos })?;
-            bytes[pos / 2] = bytes[pos / 2] << 4 | digit as u8;
+            #[allow(clippy::cast_possible_truncation, reason = "a digit is at most 15")]
+            let digit = digit.ok_or(RecordError::Digit { pos })? as u8;
+            bytes[pos / 2] = bytes[pos / 2] << 4 | digit;
         }
         Self::from_bytes(&bytes).map_err(RecordError::Refused)
     }
@@ -135,7 +177,7 @@ impl FromStr for Record {
 /// assert_eq!(refusal(&"0g".repeat(370)), RecordError::Digit { pos: 1 });
 /// assert_eq!(refusal(&"01".repeat(370)), RecordError::Refused(CdError::NoDiagram));
 /// ```
-#[derive(Clone, Copy, Debug, PartialEq, Eq)]
+#[derive(Clone, Copy, Debug, PartialEq, Eq, Hash)]
 pub enum RecordError {
     /// The text is not 740 bytes long.
     Length {
@@ -149,7 +191,7 @@ pub enum RecordError {
         pos: usize,
     },
 
-    /// The digits are those of no record.
+    /// The digits are those of no record. The library's refusal is its [`source`](Error::source).
     Refused(CdError),
 }
 
@@ -158,9 +200,16 @@ impl fmt::Display for RecordError {
         match self {
             Self::Length { len } => write!(f, "{len} bytes in place of 740 digits"),
             Self::Digit { pos } => write!(f, "no hexadecimal digit at position {pos}"),
-            Self::Refused(e) => e.fmt(f),
+            Self::Refused(_) => write!(f, "the digits are those of no record"),
         }
     }
 }
 
-impl Error for RecordError {}
+impl Error for RecordError {
+    fn source(&self) -> Option<&(dyn Error + 'static)> {
+        match self {
+            Self::Refused(e) => Some(e),
+            Self::Length { .. } | Self::Digit { .. } => None,
+        }
+    }
+}

@@ -1,6 +1,8 @@
 //! The nodes and edges that a text is read to.
 
-use lexicon::{Cd, CdResult, Edge, Node, StoredEdge};
+use std::collections::HashSet;
+
+use lexicon::{Cd, CdResult, Diagram, Edge, Node, StoredEdge};
 
 fn edges(text: &str) -> CdResult<Vec<(usize, usize, u32, u32)>> {
     let numbers = |StoredEdge { a, b, edge }| (a, b, edge.num, edge.den);
@@ -34,7 +36,7 @@ fn the_last_two_parts_of_an_edge_count() -> CdResult<()> {
     assert_eq!(edges("x6/2o")?, [(0, 1, 6, 2)]);
     assert_eq!(
         edges("x4294967295/4294967294o")?,
-        [(0, 1, 4294967295, 4294967294)]
+        [(0, 1, u32::MAX, u32::MAX - 1)]
     );
     Ok(())
 }
@@ -44,12 +46,31 @@ fn nodes_have_their_lengths() -> CdResult<()> {
     let cd = Cd::parse("o s q (-2.5e1) (-0)")?;
     let root = std::f64::consts::SQRT_2;
     let expected = [0.0, 1.0, root, -25.0, -0.0];
+    assert_eq!(cd.node_vector(), expected);
+    assert!(cd.node_vector()[4].is_sign_negative());
     let values: Vec<f64> = cd.node_iter().map(|node| node.value()).collect();
     assert_eq!(values, expected);
-    assert!(values[4].is_sign_negative());
     let ringed: Vec<bool> = cd.node_iter().map(|node| node.is_ringed()).collect();
     assert_eq!(ringed, [false, false, true, true, true]);
     assert_eq!(cd.nodes()[..2], [Node::Unringed, Node::Snub(1.0)]);
+    Ok(())
+}
+
+#[test]
+fn nodes_and_diagrams_are_compared_by_kind_and_bits() -> CdResult<()> {
+    let texts = [
+        "(0)", "(-0)", "o", "x", "(1)", "s", "xo", "ox", "x3o", "x6/2o",
+    ];
+    let mut diagrams: HashSet<Diagram> = HashSet::new();
+    for text in texts {
+        let diagram = Cd::parse(text)?.diagram().clone();
+        assert_eq!(diagrams.insert(diagram), text != "(1)", "{text}"); // which is x
+    }
+    assert_ne!(Node::Ringed(0.0), Node::Ringed(-0.0));
+    assert_ne!(Node::Ringed(0.0), Node::Snub(0.0));
+    assert_ne!(Node::Ringed(0.0), Node::Unringed);
+    let nodes = [Node::Ringed(f64::NAN); 2]; // of no text, but data
+    assert_eq!((nodes[0], HashSet::from(nodes).len()), (nodes[1], 1));
     Ok(())
 }
 
@@ -71,6 +92,13 @@ fn an_edge_has_its_quotient() {
     let edge = Edge { num: 5, den: 2 };
     assert_eq!((edge.value(), edge.to_string()), (2.5, "5 / 2".to_owned()));
     assert_eq!(Edge { num: 3, den: 1 }.to_string(), "3");
+}
+
+#[test]
+fn an_edge_is_two_without_wrapping() {
+    let two = |num, den| Edge { num, den }.eq_two();
+    assert!(two(2, 1) && two(6, 3) && two(u32::MAX - 1, u32::MAX / 2));
+    assert!(!two(5, 2) && !two(0, 1 << 31) && !two(1, 2));
 }
 
 #[test]

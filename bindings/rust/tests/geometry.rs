@@ -1,5 +1,7 @@
 //! Matrices, mirrors, generators, reflections and families.
 
+#![allow(clippy::float_cmp, reason = "`near` is for what is not exact")]
+
 use lexicon::{Cd, CdError, CdResult, Cox, Matrix};
 
 fn dot(a: &[f64], b: &[f64]) -> f64 {
@@ -143,13 +145,13 @@ fn infinite_groups_have_no_mirrors() -> CdResult<()> {
 }
 
 #[test]
-#[should_panic]
+#[should_panic(expected = "index out of bounds")]
 fn a_row_out_of_range_panics() {
     let _ = Cox::a(2).unwrap()[(2, 0)];
 }
 
 #[test]
-#[should_panic]
+#[should_panic(expected = "column 2 of 2")]
 fn a_column_out_of_range_panics() {
     let _ = Cox::a(2).unwrap()[(0, 2)];
 }

@@ -1,6 +1,9 @@
 //! Records: equal for equal figures, keys of maps, read back, refused.
 
-use std::collections::{BTreeSet, HashMap};
+use std::{
+    collections::{BTreeSet, HashMap},
+    error::Error,
+};
 
 use lexicon::{Cd, CdError, Record, RecordError};
 
@@ -64,6 +67,12 @@ fn round_trips_by_bytes_and_by_digits() {
     for text in ["*a", "x", "x3o4o", "s5/2s3s", "(inf)3(-0)7/3o", "ooooooo"] {
         let record = record(text);
         assert_eq!(Record::from_bytes(record.as_bytes()), Ok(record));
+        assert_eq!(Record::from_trusted_bytes(record.as_bytes()), record);
+        let bytes: &[u8] = record.as_ref();
+        assert_eq!(
+            (bytes, bytes.try_into()),
+            (&record.as_bytes()[..], Ok(record))
+        );
         let digits = record.to_string();
         assert_eq!((digits.len(), digits.to_lowercase()), (740, digits.clone()));
         assert_eq!(digits.parse(), Ok(record));
@@ -89,6 +98,7 @@ fn other_lengths_are_refused() {
             Record::from_bytes(&bytes[..len]),
             Err(CdError::RecordLength)
         );
+        assert_eq!(Record::try_from(&bytes[..len]), Err(CdError::RecordLength));
     }
     assert_eq!(Record::from_bytes(&bytes[..370]), Ok(record("*a")));
 }
@@ -117,6 +127,19 @@ fn bytes_of_no_diagram_are_refused() {
 }
 
 #[test]
+fn trusted_bytes_are_taken_as_they_are() {
+    let record = Record::from_trusted_bytes(&[255; Record::LEN]);
+    assert_eq!(record.as_bytes(), &[255; Record::LEN]);
+    assert_eq!(record.to_string(), "ff".repeat(Record::LEN));
+}
+
+#[test]
+#[should_panic(expected = "no diagram has this record")]
+fn a_diagram_of_trusted_bytes_that_are_no_record_panics() {
+    let _ = Record::from_trusted_bytes(&[255; Record::LEN]).diagram();
+}
+
+#[test]
 fn wrong_digits_are_told() {
     let digits = record("x4o").to_string();
     let refusal = |text: &str| text.parse::<Record>().unwrap_err();
@@ -142,6 +165,11 @@ fn wrong_digits_are_told() {
 
     let refused = refusal(&digits.replacen("02", "0a", 1));
     assert_eq!(refused, RecordError::Refused(CdError::NoDiagram));
-    assert_eq!(refused.to_string(), "no diagram has this record");
-    assert_eq!(refusal("0").to_string(), "1 bytes in place of 740 digits");
+    assert_eq!(refused.to_string(), "the digits are those of no record");
+    let source = refused.source().and_then(|e| e.downcast_ref());
+    assert_eq!(source, Some(&CdError::NoDiagram));
+
+    let short = refusal("0");
+    assert_eq!(short.to_string(), "1 bytes in place of 740 digits");
+    assert!(short.source().is_none());
 }

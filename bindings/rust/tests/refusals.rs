@@ -1,7 +1,7 @@
 //! Every refusal that the crate can give, once with its number, its fields and its words. 12 is not
 //! among them: the crate's buffers are long enough.
 
-use std::error::Error;
+use std::{collections::HashSet, error::Error};
 
 use lexicon::{Cd, CdError, CdResult, Cox, Record};
 
@@ -9,7 +9,7 @@ const SPACES: [u8; 256] = [b' '; 256];
 
 /// Texts that are refused with 1 to 11, in the order of these numbers.
 fn refused_texts() -> [(&'static [u8], CdError); 11] {
-    let (num, den, pos) = (4294967294, 4294967295, 21);
+    let (num, den, pos) = (u32::MAX - 1, u32::MAX, 21);
     [
         (&SPACES, CdError::TooLong { pos: 255 }),
         (b"x3\xe9", CdError::NotAscii { pos: 2 }),
@@ -42,6 +42,13 @@ fn texts_by_every_call_that_reads_one() {
 }
 
 #[test]
+fn are_hashed_by_their_fields() {
+    let texts = ["x3", "x4", "x ", "x3/o", "x1o", "o1o", "x1/1o", "x0o"];
+    let refusals: HashSet<CdError> = texts.map(|text| Cd::parse(text).unwrap_err()).into();
+    assert_eq!(refusals.len(), 5); // the first three are one, x1o and o1o another
+}
+
+#[test]
 fn texts_in_words() {
     let words = [
         "CD too long at position 255",
@@ -65,6 +72,7 @@ fn texts_of_the_specification() {
     assert_eq!(refused(""), CdError::UnexpectedEnding { pos: 0 });
     assert_eq!(refused("x "), CdError::UnexpectedEnding { pos: 2 });
     assert_eq!(refused("("), CdError::MismatchedParenthesis { pos: 1 });
+    assert_eq!(refused("x(1"), CdError::MismatchedParenthesis { pos: 3 });
     assert_eq!(refused("()"), CdError::ParseError { pos: 1 });
     assert_eq!(refused("x3_"), CdError::InvalidSymbol { pos: 2 });
     assert_eq!(refused("x3\to"), CdError::InvalidSymbol { pos: 2 });

@@ -1,5 +1,7 @@
 //! Texts at the limits and beyond: each ends with a diagram or with a refusal.
 
+#![allow(clippy::float_cmp, reason = "3 and 0 are exact")]
+
 use lexicon::{Cd, CdError, CdResult, Node};
 
 fn refusal(text: &[u8]) -> CdError {
