@@ -1,23 +1,29 @@
-# make test: the library's callers, the comparisons, then `rt ci`. make lib: the library for C and Rust. make callers: the programs in C and the Rust crate over it.
-# make compare: the comparisons alone, with more pairs; SEED=7 TEXTS=100000000 PAIRS=0 for a seed and counts of one's own.
-# make run: cdfile on standard input, or on a sample where that is a terminal. make list: cdlist likewise. make bench: the table of docs/BENCHMARKS.md.
-# Everything is built into target/.
+# make test: `rt ci`, then the library's callers, the comparisons and the claims on what it has proved. make lib: the library for C and Rust. make callers: the
+# programs in C and the Rust crate over it. make compare: the comparisons alone, with more pairs; SEED=7 TEXTS=100000000 PAIRS=0 for a seed and counts of one's own.
+# make claims: docs/CLAIMS.md against the crates. make run: cdfile on standard input, or on a sample where that is a terminal. make list: cdlist likewise.
+# make bench: the table of docs/BENCHMARKS.md. Everything is built into target/.
+
+SHELL = /bin/bash
+.SHELLFLAGS = -o pipefail -c
 
 CC = gcc
 CFLAGS = -std=c11 -Wall -Wextra -ffp-contract=off
 LIB = target/staticlib
 
-.PHONY: test lib callers run list compare bench float_c lexicon_c
+.PHONY: test lib callers claims run list compare bench float_c lexicon_c
 
 # The seed of the texts and pairs by chance, and how many.
 SEED := $(shell date +%Y%m%d)
 TEXTS = 1000000
 PAIRS = 1000000
 
-# `rt ci` starts from nothing and removes target/, so it comes last; its last line is the verdict.
-test: PAIRS = 100000
-test: callers compare
-	@rt ci
+# `rt ci` removes target/ and proves from nothing; what follows runs on what it has built, so that everything is proved once. Its output is kept in
+# target/ci.log, and its last line, the verdict, is said again only if all passed.
+test: CI := $(shell mktemp)
+test:
+	@rt ci 2>&1 | tee $(CI); status=$$?; mkdir -p target; mv $(CI) target/ci.log; exit $$status
+	@$(MAKE) --no-print-directory callers compare claims PAIRS=100000
+	@tail -n 1 target/ci.log
 
 lib: lexicon_c
 	@echo "$(LIB)/liblexicon_c.a, with include/lexicon.h"
@@ -29,22 +35,28 @@ callers: lexicon_c
 	@target/example | diff bindings/c/example.stdout -
 	@cd bindings/rust && cargo test --offline --quiet
 
+claims:
+	@docs/check_claims.py
+
+# While crates are proved, a line for each goes to standard error; target/NAME.log has all that was said.
+prove = { $(1); } 2>&1 | tee target/$@.log | sed -un '/^rt: /{/unchanged/!p}' >&2 || { cat target/$@.log; exit 1; }
+
 run: PROGRAM = cdfile
 list: PROGRAM = cdlist
 run list: | target
-	@rt check $(PROGRAM) >target/$(PROGRAM).log 2>&1 || { cat target/$(PROGRAM).log; exit 1; }
+	@$(call prove,rt check $(PROGRAM))
 	@if [ -t 0 ]; then target/bin/$(PROGRAM) <crates/$(PROGRAM)/stdin; else target/bin/$(PROGRAM); fi
 
 # Proves before it builds: what stands below by `rt check`, which proves two crates at a time, as `rt staticlib` does not.
 float_c: BELOW = float
 lexicon_c: BELOW = lent
 float_c lexicon_c: | target
-	@{ rt check $(BELOW) && rt staticlib $@; } >target/$@.log 2>&1 || { cat target/$@.log; exit 1; }
+	@$(call prove,rt check $(BELOW) && rt staticlib $@)
 
 compare: float_c lexicon_c
 	@$(CC) $(CFLAGS) -O2 -o target/float oracle/float.c $(LIB)/libfloat_c.a -lm
 	@target/float $(SEED)
-	@if oracle/build; then python3 oracle/answers.py && oracle/compare $(SEED) $(TEXTS) $(PAIRS); fi
+	@oracle/build && python3 oracle/answers.py && oracle/compare $(SEED) $(TEXTS) $(PAIRS)
 	@python3 oracle/cox.py
 	@python3 oracle/filing.py
 

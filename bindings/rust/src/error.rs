@@ -22,6 +22,7 @@ pub type CdResult<T> = Result<T, CdError>;
 /// assert_eq!(refusal, CdError::RepeatEdge { a: 1, b: 0 });
 /// ```
 #[derive(Clone, Copy, Debug, PartialEq, Eq, Hash)]
+#[non_exhaustive]
 pub enum CdError {
     /// The text has more than 255 bytes.
     TooLong {
