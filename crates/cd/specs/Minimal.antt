@@ -32,7 +32,7 @@ pub record RingNear (ns : List Node) (es : List Stored) (i : ℕ) : Type 0 where
   pub path : Path (Linked (length ns) es) i at
   pub ring : RingedAt ns at
 
--- "each component has a ringed node": whichever node one starts from, a path leads to one
+-- "each component .. has a ringed node": whichever node one starts from, a path leads to one
 abbrev pub Minimal : List Node → List Stored → Type 0
 Minimal ns es = (i : ℕ) → i < length ns → RingNear ns es i
 

@@ -1,5 +1,5 @@
--- The program `cdfile`: "`ok`, the record's 740 lower-case hexadecimal digits, a space, and the numbering as n decimal digits (nothing for no nodes); or `no` and
--- the refusal as `cdlist` writes it", with LF after each line.
+-- The program `cdfile` writes `ok`, the record's 740 lower-case hexadecimal digits, a space, and the numbering as n decimal digits (nothing for no nodes); or `no`
+-- and the refusal as `cdlist` writes it; with LF after each line.
 use Prim.Native.Nat.{ℕ, _+_, _-_, _/_, _%_, _≤_, _<_}
 use Prim.Native.Char.{code}
 use mathlib.Core.List.{List, [], _∷_, _++_, map}

@@ -15,7 +15,7 @@ isEntry a b i j = (eqb i a && eqb j b) || (eqb i b && eqb j a)
 unfoldable pub chain : ℕ → ℕ → ℕ
 chain i j = pick (eqb i j) 1 (pick (eqb (i + 1) j || eqb (j + 1) i) 3 2)
 
--- "entry a, b made v"
+-- the entry a, b and the mirrored one made v
 unfoldable pub made : ℕ → ℕ → ℕ → (ℕ → ℕ → ℕ) → ℕ → ℕ → ℕ
 unfolding isEntry
 made a b v f i j = pick (isEntry a b i j) v (f i j)

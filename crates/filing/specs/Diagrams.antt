@@ -21,8 +21,8 @@ pub record Diagram : Type 0 where
 
 -- ---- demand 3's sentence
 
--- "some renumbering carries one text's diagram onto the other's (same number of nodes; each node sent to one of the same kind and 64 value bits; every
--- two different nodes joined by a fraction equal to the one between the nodes they are sent to, a missing edge counting as 2/1)"
+-- some renumbering carries one text's diagram onto the other's (same number of nodes; each node sent to one of the same kind and 64 value bits; every
+-- two different nodes joined by a fraction equal to the one between the nodes they are sent to, a missing edge counting as 2/1)
 pub record Carries (d e : Diagram) (f : ℕ → ℕ) : Type 0 where
   pub size : d .size ≡ e .size
   pub numbering : Numbering (d .size) f

@@ -1,4 +1,5 @@
--- The promise of `read`. Document 01: a call "ends with a diagram, record or table, or with a refusal".
+-- The promise of `read`. Document 01, "Forged records and readers": "Each call's promise should equate its result, refusal fields and every byte of the buffer
+-- with a definition".
 use mathlib.Core.Bool.{Bool, false}
 use mathlib.Core.List.{List}
 use mathlib.Core.Path.{_≡_}

@@ -35,7 +35,7 @@ edgeAt N l j i =
     let e = edgeOf (fractionAt l (pairPlace N i j)) in
     pick (isTwo e) [] (record { first = i; other = j; edge = e } ∷ [])
 
--- the edges of place j with the first k places, and those of the first n places, "by rising j and then rising i"
+-- the edges of place j with the first k places, and those of the first n places, by rising j and then rising i
 unfoldable pub rowTo : ℕ → List ℕ → ℕ → ℕ → List Stored
 unfolding edgeAt blocks
 rowTo N l j k = blocks (edgeAt N l j) k
