@@ -22,8 +22,9 @@ use Rattle.parse.proofs.Outcomes.{accepted-few}
 use Rattle.tables.specs.Diagrams.{filed, fraction, joint, diagram}
 use Rattle.tables.specs.Tables.{IsNumber}
 use Rattle.tables.proofs.Joints.{two-edge, joint-symmetric}
+use Rattle.lexicon.specs.All.{All, nil, cons}
 use Rattle.lexicon.proofs.SoundNodes.{picked}
-use Rattle.lexicon.proofs.Sound.{Sound, unringed, ringed, snub, All, nil, cons, SoundEdge, sound-nodes, sound-edges}
+use Rattle.lexicon.proofs.Sound.{Sound, unringed, ringed, snub, SoundEdge, sound-nodes, sound-edges}
 
 -- ---- nodes
 

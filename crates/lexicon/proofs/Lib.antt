@@ -3,4 +3,6 @@ mod SoundNodes
 mod Sound
 pub mod Fileable
 pub mod Demand3
-mod FilingsRight
+pub mod Marks
+mod FewNodes
+pub mod TextsRight

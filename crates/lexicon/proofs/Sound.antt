@@ -39,8 +39,9 @@ use Rattle.parse.specs.Joining.{Joined, Edges, joinOne, joinAll}
 use Rattle.parse.specs.Joining as joining
 use Rattle.parse.specs.Reading.{Reading, Accepted, withEdges, joined, high, read}
 use Rattle.parse.specs.Reading as reading
+use Rattle.lexicon.specs.All.{All, nil, cons}
 use Rattle.lexicon.proofs.SoundNodes.{picked, tested, SoundRead, node-sound}
-pub use Rattle.lexicon.proofs.SoundNodes.{Sound, unringed, ringed, snub, All, nil, cons}
+pub use Rattle.lexicon.proofs.SoundNodes.{Sound, unringed, ringed, snub}
 use Rattle.lexicon.proofs.SoundNodes as nodes
 
 -- a valid edge of 32-bit numbers, den being below num, that joins two of n nodes, or one to itself

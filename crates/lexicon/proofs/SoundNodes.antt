@@ -36,17 +36,13 @@ use Rattle.length.specs.declared.Length.the-variants.{Value, NoNumber, Nan, Ran
 use Rattle.node.specs.Nodes.{closing, lastByte, lengthNode, lengthAt, letterAt, referenceAt, letterNode, nodeAt}
 use Rattle.node.specs.declared.NodeRead.{NodeRead}
 use Rattle.node.specs.declared.NodeRead.the-variants.{Added, Referred, Refused}
+use Rattle.lexicon.specs.All.{All, nil, cons}
 
 -- a value that a record can hold: a double, and not nan
 pub data Sound : Node → Type 0 where
   unringed : Sound Unringed
   ringed : {v : Float} → T (fits binary64 v) → isNan v ≡ false → Sound (Ringed v)
   snub : {v : Float} → T (fits binary64 v) → isNan v ≡ false → Sound (Snub v)
-
--- each element has the property
-pub data All {A : Type 0} (P : A → Type 0) : List A → Type 0 where
-  nil : All P []
-  cons : {x : A} {xs : List A} → P x → All P xs → All P (x ∷ xs)
 
 -- what is chosen has the property, if both are known to have it, or the first where the test holds
 pub picked : {A : Type 0} (P : A → Type 0) {x y : A} (t : Bool) → P x → P y → P (pick t x y)

@@ -1,6 +1,7 @@
--- What the public calls promise, and the records that document 01 tells.
+-- What the public calls promise, and the texts that document 01 tells of.
 pub mod Reads
 pub mod Files
 pub mod ReadsRecord
 pub mod Answers
-pub mod Filings
+pub mod All
+pub mod Texts

@@ -1,5 +1,4 @@
--- The laws of reading: the loop over the text, the queue; and the texts to try.
+-- The laws of reading: the loop over the text, and the queue.
 mod JoinLaws
 mod Turns
 pub mod Outcomes
-mod TextsRight

@@ -2,4 +2,3 @@
 pub mod Text
 pub mod Joining
 pub mod Reading
-pub mod Texts
