@@ -1,0 +1,2 @@
+-- The whole output of `cdlist`.
+mod Whole
