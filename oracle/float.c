@@ -17,7 +17,7 @@ double float_decimal(uint64_t w, int64_t p, bool minus);
 
 #define PI 3.141592653589793
 #define ONE UINT64_C(0x3ff0000000000000)    // the pattern of 1.0
-#define TEN_15 UINT64_C(1000000000000000)   // the first number of 16 digits
+#define MOST (UINT64_C(1) << 53)            // what float_decimal takes: up to it each whole number is a double
 
 static uint64_t state = UINT64_C(88172645463325252);
 static struct { uint64_t compared, differ; } count;
@@ -195,30 +195,24 @@ static void compare_literal(uint64_t w, int64_t p, bool minus)
 // 0, and of each length the least number, the greatest and random ones.
 static void decimal_in_range(int64_t p, bool minus)
 {
-    uint64_t least = 1;
     compare_literal(0, p, minus);
-    for (int digits = 1; digits <= 15; digits++, least *= 10) {
+    for (uint64_t least = 1; least <= MOST; least *= 10) {
+        uint64_t greatest = least <= MOST / 10 ? 10 * least - 1 : MOST;
         compare_literal(least, p, minus);
-        compare_literal(10 * least - 1, p, minus);
+        compare_literal(greatest, p, minus);
         for (int i = 0; i < 750; i++)
-            compare_literal(least + rnd() % (9 * least), p, minus);
+            compare_literal(least + rnd() % (greatest - least + 1), p, minus);
     }
 }
 
-// Just out of range, and far out: in the digits, in the power, in both.
+// Powers just out of range, and far out.
 static void decimal_out_of_range(bool minus)
 {
-    static const uint64_t long_ones[] = {TEN_15, TEN_15 + 1, UINT64_MAX};
     static const int64_t powers[] = {-23, 23, INT64_MIN, INT64_MAX};
-    for (size_t i = 0; i < LEN(long_ones); i++) {
-        for (int64_t p = -22; p <= 22; p++)
-            compare_decimal(long_ones[i], p, minus, NAN);
-        for (size_t j = 0; j < LEN(powers); j++)
-            compare_decimal(long_ones[i], powers[j], minus, NAN);
-    }
-    for (size_t j = 0; j < LEN(powers); j++) {
-        compare_decimal(0, powers[j], minus, NAN);
-        compare_decimal(rnd() % TEN_15, powers[j], minus, NAN);
+    for (size_t i = 0; i < LEN(powers); i++) {
+        compare_decimal(0, powers[i], minus, NAN);
+        compare_decimal(rnd() % MOST, powers[i], minus, NAN);
+        compare_decimal(MOST, powers[i], minus, NAN);
     }
 }
 

@@ -1,6 +1,6 @@
--- A literal's value is the double nearest to the decimal that is written. Its digits, below 10 ^ 15, are a double exactly, and so is 10 ^ k = 5 ^ k * 2 ^ k
--- for k up to 22, since 5 ^ 22 < 2 ^ 53. So the product or the quotient of the two doubles has the value that is written before it is rounded, and `round`
--- sees only the value of its fraction. Assumes nothing.
+-- A literal's value is the double nearest to the decimal that is written. Its digits are a double exactly: a whole number up to 2 ^ 53, since 15 digits are
+-- below 10 ^ 15. So is 10 ^ k = 5 ^ k * 2 ^ k for k up to 22, since 5 ^ 22 < 2 ^ 53. So the product or the quotient of the two doubles has the value that is
+-- written before it is rounded, and `round` sees only the value of its fraction. Assumes nothing.
 use mathlib.Core.Path.{_≡_, refl, ap, _∙_}
 use mathlib.Core.Bool.{Bool, false, cond}
 use Prim.Native.Nat.{ℕ, zero, suc, _+_, _*_, _^_, _≤_, _<_}
@@ -30,9 +30,9 @@ exactly nan a h = absurd h
 exactly (inf s) a h = absurd h
 exactly (fin s m e) a h = rw (h .0) (is (rw mul-one at (h .1)))
 
-digits-exact : (w : ℕ) → w < 10 ^ 15 → Exactly (whole w) w
+digits-exact : (w : ℕ) → w ≤ 2 ^ 53 → Exactly (whole w) w
 unfolding whole ofInt
-digits-exact w h = exactly (round binary64 false w 1) w (round-whole binary64 false w (omega arith))
+digits-exact w h = exactly (round binary64 false w 1) w (round-whole binary64 false w h)
 
 five-two : (k : ℕ) → 10 ^ k ≡ 5 ^ k * 2 ^ k
 five-two zero = refl
@@ -65,11 +65,11 @@ quotient-rounded (is {m} {e} {a} p) (is {m = n} {e = d} {a = b} q) B =
 -- ---- the literals
 
 -- w × 10 ^ k, rounded once
-pub up-rounded-once : (w k : ℕ) → w < 10 ^ 15 → k ≤ 22 → value w (pos k) ≡ round binary64 false (w * 10 ^ k) 1
+pub up-rounded-once : (w k : ℕ) → w ≤ 2 ^ 53 → k ≤ 22 → value w (pos k) ≡ round binary64 false (w * 10 ^ k) 1
 unfolding value
 up-rounded-once w k h l = product-rounded (digits-exact w h) (power-exact k l)
 
 -- w ÷ 10 ^ suc k, rounded once
-pub down-rounded-once : (w k : ℕ) → w < 10 ^ 15 → suc k ≤ 22 → value w (negsuc k) ≡ round binary64 false w (10 ^ suc k)
+pub down-rounded-once : (w k : ℕ) → w ≤ 2 ^ 53 → suc k ≤ 22 → value w (negsuc k) ≡ round binary64 false w (10 ^ suc k)
 unfolding value
 down-rounded-once w k h l = quotient-rounded (digits-exact w h) (power-exact (suc k) l) (one-le-pow (suc k) 10 (lit< tt))

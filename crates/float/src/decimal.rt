@@ -1,13 +1,13 @@
 // The value of a literal: its digits w as a whole number, its power of ten p, its sign.
 ghost use mathlib.Core.Bool.{true};
 ghost use mathlib.Core.Path.{_≡_};
-ghost use Prim.Native.Nat.{_≤_, _<_, _^_};
+ghost use Prim.Native.Nat.{_≤_, _^_};
 ghost use Rattle.float.specs.Numbers.{whole};
 ghost use Rattle.float.specs.Decimal.{inRange, value, decimalOf};
 
 pub enum Literal {
     Value(f64),
-    // More digits, or another power of ten, than the port takes.
+    // Another power of ten than the port takes.
     OutOfRange,
 }
 
@@ -53,9 +53,9 @@ fn in_range(p: i64) -> bool
     -22 <= p && p <= 22
 }
 
-// w × 10 ^ p or w ÷ 10 ^ −p: one operation on exact numbers.
+// w × 10 ^ p or w ÷ 10 ^ −p: one operation on exact numbers. Up to 2 ^ 53 each whole number is a double, and the cast is defined there only.
 fn value(w: u64, p: i64) -> f64
-    requires { ⌜ (w < 10 ^ 15) × (inRange p ≡ true) ⌝ }
+    requires { ⌜ (w ≤ 2 ^ 53) × (inRange p ≡ true) ⌝ }
     ensures { λ r. ⌜ r ≡ value w p ⌝ }
 {
     let d = w as f64;
@@ -68,11 +68,9 @@ fn value(w: u64, p: i64) -> f64
 
 // The literal's value; a minus is applied last.
 pub fn decimal(w: u64, p: i64, minus: bool) -> Literal
+    requires { ⌜ w ≤ 2 ^ 53 ⌝ }
     ensures { λ r. ⌜ r ≡ decimalOf w p minus ⌝ }
 {
-    if 1_000_000_000_000_000 <= w {
-        return Literal::OutOfRange;
-    }
     if !in_range(p) {
         return Literal::OutOfRange;
     }

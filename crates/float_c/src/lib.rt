@@ -1,5 +1,6 @@
 // The float layer for C to call, for comparison runs.
 ghost use mathlib.Core.Path.{_≡_};
+ghost use Prim.Native.Nat.{_≤_, _^_};
 ghost use Rattle.float.specs.Root.{rootOf};
 ghost use Rattle.float.specs.Cosine.{cosOf};
 ghost use Rattle.float.specs.Decimal.{decimalOf};
@@ -20,9 +21,10 @@ pub extern "C" fn float_fcos(a: f64) -> f64
     float::cosine::fcos(a)
 }
 
-// A literal that is out of range is a NaN: every value is finite.
+// A literal whose power of ten is out of range is a NaN: every value is finite.
 #[no_mangle]
 pub extern "C" fn float_decimal(w: u64, p: i64, minus: bool) -> f64
+    requires { ⌜ w ≤ 2 ^ 53 ⌝ }
     ensures { λ r. ⌜ r ≡ orNan (decimalOf w p minus) ⌝ }
 {
     let l = float::decimal::decimal(w, p, minus);

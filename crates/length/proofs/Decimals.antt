@@ -13,6 +13,7 @@ use Rattle.length.specs.declared.Exponent.{Exponent}
 use Rattle.length.proofs.Bounds.{judged-kept}
 use Rattle.scan.proofs.Rest.{drop-at}
 use Rattle.length.proofs.Runs.{number-kept, number-append}
+use Rattle.length.proofs.Numbers.{fifteen-digits}
 
 module _ (t : List ℕ) (i : ℕ) where
   fraction-at-point : i < length t → getD t i 0 ≡ 46 → fraction (drop i t) ≡ digits (drop (i + 1) t)
@@ -33,7 +34,7 @@ unfolding decimal
 decimal-of-kept minus s b n w f x eb en ew ef ex =
     let ds = digits s .front ++ b .front in
     rw (eb, en, ew, ef, ex)
-    (judged-kept minus (length ds) (number 0 ds) (length (b .front)) (exponent (b .rest)) (rw length-append (omega arith)))
+    (judged-kept minus (length ds) (number 0 ds) (length (b .front)) (exponent (b .rest)) (rw length-append (omega arith)) (rw eb at (fifteen-digits s)))
 
 module _ (minus : Bool) (t : List ℕ) (at : ℕ) (a : Digits) (k : Took t at 0 (10 ^ 15) a) (x : Exponent) where
   pub decimal-plain : fraction (drop (a .next) t) ≡ record { front = []; rest = drop (a .next) t } → x ≡ kept (exponent (drop (a .next) t)) → judged minus (a .next - at) (a .value) 0 x ≡ decimal minus (drop at t)

@@ -2,7 +2,7 @@
 use float::decimal::Literal;
 ghost use mathlib.Core.Bool.{false};
 ghost use mathlib.Core.Path.{_≡_};
-ghost use Prim.Native.Nat.{_<_, _≤_};
+ghost use Prim.Native.Nat.{_<_, _≤_, _^_};
 ghost use lib.Ieee.{inf};
 ghost use lib.ListN.{length, drop};
 ghost use Rattle.float.specs.Decimal.{signed};
@@ -156,7 +156,7 @@ pub fn power(minus: bool, e: u64, f: usize) -> i64
 
 // The number whose digits are w, n of them, f after the point, with an exponent.
 pub fn judged(w: u64, n: usize, f: usize, x: Exponent, minus: bool) -> Length
-    requires { ⌜ (f ≤ n) × (x .value ≤ 1000) ⌝ }
+    requires { ⌜ (w ≤ 2 ^ 53) × (f ≤ n) × (x .value ≤ 1000) ⌝ }
     ensures { λ r. ⌜ r ≡ judged minus n w f x ⌝ }
 {
     if n == 0 {
@@ -178,7 +178,8 @@ pub fn judged(w: u64, n: usize, f: usize, x: Exponent, minus: bool) -> Length
     }
 }
 
-// Digits with at most one point, at least one digit, and an exponent, from `at` on.
+// Digits with at most one point, at least one digit, and an exponent, from `at` on. The number is kept up to 10^15: 15 digits stay below it, and more
+// are refused whatever their number.
 pub fn decimal(t: &[u8], at: usize, minus: bool) -> Length
     requires { ⌜ at ≤ length (now t) ⌝ }
     ensures { λ r. ⌜ r ≡ decimal minus (drop at (now (t .entry))) ⌝ }

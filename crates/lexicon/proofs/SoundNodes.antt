@@ -1,13 +1,13 @@
 -- A node that was read holds a double and no nan. A letter's is one of the table's, and antt computes the test of each. A literal's value is an infinity, or is
--- rounded once: what `round` gives is a double, and never nan. Assumes nothing.
-use Prim.Native.Nat.{ℕ, zero, suc, _+_, _-_, _*_, _^_, _≤_}
+-- rounded once, since its digits are a double exactly: what `round` gives is a double, and never nan. Assumes nothing.
+use Prim.Native.Nat.{ℕ, zero, suc, _+_, _-_, _*_, _^_, _≤_, _<_}
 use Prim.Native.Char.{code}
-use mathlib.Core.Bool.{Bool, true, false, not, _&&_, _||_, cond, true≢false, and-true, and-eq-true-iff}
+use mathlib.Core.Bool.{Bool, true, false, not, _||_, cond, true≢false, and-true}
 use mathlib.Core.List.{List, [], _∷_, _++_}
 use mathlib.Core.Path.{_≡_, refl, ap, _∙_}
 use native.Mathlib.Omega.{arith}
-use borrow.Author.Tests.{ltb-true, leb-true}
-use lib.Dec.{T, ltb, leb, eqb}
+use borrow.Author.Tests.{ltb-false, leb-true}
+use lib.Dec.{T, ltb, eqb}
 use lib.IntN.{ℤ, pos, negsuc}
 use lib.Ieee.{Float, nan, inf, fin, binary64, prec, emax, low, odd, units, round, neg, fits, isNan, ofBits, add, sub, mul, div}
 use lib.Ieee.Fits.{inf-fits, neg-fits, round-is, round-fits}
@@ -33,6 +33,7 @@ use Rattle.length.specs.Literals.{digits, number, fraction, sign, exponent, pow
 use Rattle.length.specs.declared.Exponent.{Exponent}
 use Rattle.length.specs.declared.Length.{Length}
 use Rattle.length.specs.declared.Length.the-variants.{Value, NoNumber, Nan, Range}
+use Rattle.length.proofs.Numbers.{fifteen-digits}
 use Rattle.node.specs.Nodes.{closing, lastByte, lengthNode, lengthAt, letterAt, referenceAt, letterNode, nodeAt}
 use Rattle.node.specs.declared.NodeRead.{NodeRead}
 use Rattle.node.specs.declared.NodeRead.the-variants.{Added, Referred, Refused}
@@ -96,15 +97,12 @@ units-number s q k = below (ltb (q * 2 ^ k) (2 ^ (low binary64 + suc (emax binar
 round-number : (s : Bool) (a b : ℕ) → IsNumber (round binary64 s a b)
 round-number s a b = (round-fits binary64 s a b, ap isNan (round-is binary64 s a b) ∙ units-number s _ _)
 
-value-number : (w : ℕ) (p : ℤ) → (ltb w (10 ^ 15) && inRange p) ≡ true → IsNumber (Decimal.value w p)
+value-number : (w : ℕ) (p : ℤ) → w ≤ 2 ^ 53 → inRange p ≡ true → IsNumber (Decimal.value w p)
 unfolding inRange
-value-number w (pos k) h =
-    let b = and-eq-true-iff (ltb w (10 ^ 15)) (leb k 22) .0 h in
-    rw (up-rounded-once w k (ltb-true w (10 ^ 15) (b .0)) (leb-true k 22 (b .1))) (round-number false (w * 10 ^ k) 1)
-value-number w (negsuc k) h =
-    let b = and-eq-true-iff (ltb w (10 ^ 15)) (leb k 21) .0 (rw and-true at h) in
-    let l : suc k ≤ 22 = omega (arith, leb-true k 21 (b .1)) in
-    rw (down-rounded-once w k (ltb-true w (10 ^ 15) (b .0)) l) (round-number false w (10 ^ suc k))
+value-number w (pos k) h r = rw (up-rounded-once w k h (leb-true k 22 r)) (round-number false (w * 10 ^ k) 1)
+value-number w (negsuc k) h r =
+    let l : suc k ≤ 22 = omega (arith, leb-true k 21 (rw and-true at r)) in
+    rw (down-rounded-once w k h l) (round-number false w (10 ^ suc k))
 
 signed-number : (minus : Bool) (v : Float) → IsNumber v → IsNumber (signed minus v)
 unfolding signed neg isNan
@@ -120,18 +118,22 @@ data SoundLength : Length → Type 0 where
   not-a-number : SoundLength Nan
   range : SoundLength Range
 
-decimal-of-sound : (w : ℕ) (p : ℤ) (minus : Bool) → SoundLength (lengthOf (decimalOf w p minus))
+decimal-of-sound : (w : ℕ) (p : ℤ) (minus : Bool) → w ≤ 2 ^ 53 → SoundLength (lengthOf (decimalOf w p minus))
 unfolding decimalOf lengthOf
-decimal-of-sound w p minus =
-    tested (λ (l : Literal). SoundLength (lengthOf l)) (ltb w (10 ^ 15) && inRange p)
-    (λ h. value (signed-number minus (Decimal.value w p) (value-number w p h)))
+decimal-of-sound w p minus h =
+    tested (λ (l : Literal). SoundLength (lengthOf l)) (inRange p)
+    (λ r. value (signed-number minus (Decimal.value w p) (value-number w p h r)))
     range
 
-judged-sound : (minus : Bool) (n w f : ℕ) (x : Exponent) → SoundLength (judged minus n w f x)
+judged-sound : (minus : Bool) (n w f : ℕ) (x : Exponent) → (n ≤ 15 → w < 10 ^ 15) → SoundLength (judged minus n w f x)
 unfolding judged
-judged-sound minus n w f x =
-    picked SoundLength (eqb n 0 || not (x .ok)) no-number
-    (picked SoundLength (ltb 15 n || ltb 3 (x .count)) range (decimal-of-sound w (power (x .minus) (x .value) f) minus))
+judged-sound minus n w f x h = picked SoundLength (eqb n 0 || not (x .ok)) no-number (counted (ltb 15 n) refl)
+  where
+    counted : (t : Bool) → ltb 15 n ≡ t → SoundLength (pick (t || ltb 3 (x .count)) Range (lengthOf (decimalOf w (power (x .minus) (x .value) f) minus)))
+    counted true e = range
+    counted false e =
+        let small : w ≤ 2 ^ 53 = omega (arith, h (ltb-false 15 n e)) in
+        picked SoundLength (ltb 3 (x .count)) range (decimal-of-sound w (power (x .minus) (x .value) f) minus small)
 
 unsigned-sound : (minus : Bool) (t : List ℕ) → SoundLength (unsigned minus t)
 unfolding unsigned decimal isNan
@@ -140,7 +142,7 @@ unsigned-sound minus t =
     let b = fraction (a .rest) in
     let ds = a .front ++ b .front in
     picked SoundLength (isWord t (ascii "inf") || isWord t (ascii "infinity")) (value (signed-number minus (inf false) (inf-fits binary64 false, refl)))
-    (picked SoundLength (isWord t (ascii "nan")) not-a-number (judged-sound minus (length ds) (number 0 ds) (length (b .front)) (exponent (b .rest))))
+    (picked SoundLength (isWord t (ascii "nan")) not-a-number (judged-sound minus (length ds) (number 0 ds) (length (b .front)) (exponent (b .rest)) (fifteen-digits t)))
 
 literal-sound : (t : List ℕ) → SoundLength (literalOf t)
 unfolding literalOf

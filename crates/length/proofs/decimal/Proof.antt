@@ -40,7 +40,7 @@ take-exponent-requires : tie.Need-take-exponent-requires
 take-exponent-requires c κs = search needs
 
 judged-requires : tie.Need-judged-requires
-judged-requires c κs = (omega arith, kept-small _ _ (c .take-exponent .ensures))
+judged-requires c κs = (omega arith, omega arith, kept-small _ _ (c .take-exponent .ensures))
 
 returns : tie.Need-returns
 returns c =
@@ -53,7 +53,7 @@ take-exponent-requires-2 : tie.Need-take-exponent-requires-2
 take-exponent-requires-2 c κs = search needs
 
 judged-requires-2 : tie.Need-judged-requires-2
-judged-requires-2 c κs = (omega arith, kept-small _ _ (c .take-exponent2 .ensures))
+judged-requires-2 c κs = (omega arith, omega arith, kept-small _ _ (c .take-exponent2 .ensures))
 
 -- a byte that is no point, or the end
 no-point : (c : tie.Joined1) → let i = c .before .take-digits .result .next in let t = c .before .before .before .args .t .now in fraction (drop i t) ≡ record { front = []; rest = drop i t }

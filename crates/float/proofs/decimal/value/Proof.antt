@@ -2,7 +2,6 @@
 use mathlib.Core.Path.{_≡_, ap, _∙_}
 use mathlib.Core.Bool.{true, false}
 use Prim.Native.Nat.{_^_}
-use native.Mathlib.Omega.{arith}
 use lib.Dec.{le→leb}
 use lib.IntN.{ℤ, pos}
 use lib.Signed.{leZ}
@@ -15,7 +14,7 @@ use Rattle.float.proofs.decimal.value.Tie as tie
 
 int-to-float-d : tie.Need-int-to-float-d
 unfolding inFloat
-int-to-float-d c = le→leb (c .before .args .w) (2 ^ 53) (omega arith)
+int-to-float-d c = le→leb (c .before .args .w) (2 ^ 53) (c .before .pre .0)
 
 -- which way p counts
 up : (c : tie.Then1) → leZ (pos 0) (c .before .before .args .p) ≡ true
