@@ -23,12 +23,14 @@ unfolding ascii
 returns c =
     let p = c .before .before in
     let a = p .before .before .before .before in
-    let r = a .before .before in
-    (record {
-      bytes = _;
-      allowed = record { minimal = r .read .result .minimal; mark = r .read .ensures .minimal; line = refl };
-      added = adds-then _ _ (a .put-answer .ensures .0 _ (r .read .ensures .answer)) (p .put .ensures);
-    }, search needs)
+    let r = a .before .before in (
+      record {
+        bytes = _;
+        allowed = record { minimal = r .read .result .minimal; mark = r .read .ensures .minimal; line = refl };
+        added = adds-then _ _ (a .put-answer .ensures .0 _ (r .read .ensures .answer)) (p .put .ensures);
+      },
+      search needs,
+    )
 
 pub line-spec : {M : Type 1} → statement M
 line-spec = tie.close (tie.spec read-requires put-answer-requires put-requires same-length returns)
