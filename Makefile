@@ -10,36 +10,36 @@ CC = gcc
 CFLAGS = -std=c11 -Wall -Wextra -ffp-contract=off
 LIB = target/staticlib
 
-.PHONY: test lib callers claims run list compare bench float_c lexicon_c
+.PHONY: test lib libs callers compare beside models oracle claims run list bench
 
 # The seed of the texts and pairs by chance, and how many.
 SEED := $(shell date +%Y%m%d)
 TEXTS = 1000000
 PAIRS = 1000000
 
-# `rt ci` removes target/ and proves from nothing; what follows runs on what it has built, so that everything is proved once. Its output is kept in
-# target/ci.log, and its last line, the verdict, is said again only if all passed.
-test: CI := $(shell mktemp)
+# `rt ci` removes target/ and proves from nothing; what follows runs on what it has proved. Its output is kept in target/ci.log, and its last line, the
+# verdict, is said again only if all passed.
 test:
-	@rt ci 2>&1 | tee $(CI); status=$$?; mkdir -p target; mv $(CI) target/ci.log; exit $$status
-	@$(MAKE) --no-print-directory callers compare claims PAIRS=100000
+	@log=$$(mktemp); rt ci 2>&1 | tee $$log; status=$$?; mkdir -p target; mv $$log target/ci.log; exit $$status
+	@$(MAKE) --no-print-directory -j2 -O callers compare claims PAIRS=100000
 	@tail -n 1 target/ci.log
 
-lib: lexicon_c
+lib: libs
 	@echo "$(LIB)/liblexicon_c.a, with include/lexicon.h"
 
-callers: lexicon_c
+# While crates are proved, a line for each goes to standard error; target/NAME.log has all that was said.
+prove = { $(1); } 2>&1 | tee target/$@.log | sed -un '/^rt: /{/unchanged/!p}' >&2 || { cat target/$@.log; exit 1; }
+
+# Proves before it builds: what stands below by `rt check`, which proves two crates at a time, as `rt staticlib` does not.
+libs: | target
+	@$(call prove,rt check lent && rt staticlib float_c && rt staticlib lexicon_c)
+
+callers: libs
 	@$(CC) $(CFLAGS) -pedantic -O2 -Iinclude -o target/edges bindings/c/edges.c $(LIB)/liblexicon_c.a
 	@target/edges
 	@$(CC) $(CFLAGS) -pedantic -O2 -Iinclude -o target/example bindings/c/example.c $(LIB)/liblexicon_c.a
 	@target/example | diff bindings/c/example.stdout -
 	@cd bindings/rust && cargo test --offline --quiet
-
-claims:
-	@docs/check_claims.py
-
-# While crates are proved, a line for each goes to standard error; target/NAME.log has all that was said.
-prove = { $(1); } 2>&1 | tee target/$@.log | sed -un '/^rt: /{/unchanged/!p}' >&2 || { cat target/$@.log; exit 1; }
 
 run: PROGRAM = cdfile
 list: PROGRAM = cdlist
@@ -47,23 +47,30 @@ run list: | target
 	@$(call prove,rt check $(PROGRAM))
 	@if [ -t 0 ]; then target/bin/$(PROGRAM) <crates/$(PROGRAM)/stdin; else target/bin/$(PROGRAM); fi
 
-# Proves before it builds: what stands below by `rt check`, which proves two crates at a time, as `rt staticlib` does not.
-float_c: BELOW = float
-lexicon_c: BELOW = lent
-float_c lexicon_c: | target
-	@$(call prove,rt check $(BELOW) && rt staticlib $@)
+compare: beside models
 
-compare: float_c lexicon_c
+# The library beside the Rust, in one process.
+beside: libs oracle
 	@$(CC) $(CFLAGS) -O2 -o target/float oracle/float.c $(LIB)/libfloat_c.a -lm
 	@target/float $(SEED)
-	@oracle/build && python3 oracle/answers.py && oracle/compare $(SEED) $(TEXTS) $(PAIRS)
+	@oracle/compare $(SEED) $(TEXTS) $(PAIRS)
+
+# The models in Python, the Rust and the stored answers.
+models: oracle
+	@python3 oracle/answers.py
 	@python3 oracle/cox.py
 	@python3 oracle/filing.py
 
+oracle:
+	@oracle/build
+
+claims:
+	@docs/check_claims.py
+
 # At -O3, as rt compiles. The plain C of the root and the cosine may call nothing: its root is the machine's instruction.
 BENCH = bench.c timing.c reading.c figure.c filing.c filing_plain.c cox.c float.c
-bench: float_c lexicon_c
-	@oracle/build && python3 oracle/corpus.py long >target/long.txt
+bench: libs oracle
+	@python3 oracle/corpus.py long >target/long.txt
 	@$(CC) $(CFLAGS) -O3 -fno-math-errno -c -o target/float_plain.o bench/float_plain.c
 	@test -z "$$(nm -u target/float_plain.o)"
 	@if bench/get_nauty; then set -- -DNAUTY bench/filing_nauty.c -l:libnautyL1.a; fi; \

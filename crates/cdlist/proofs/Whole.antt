@@ -1,8 +1,7 @@
 -- What `cdlist` writes on an input: the blocks that it writes, put together, are the whole output, which is one only. Document 01's example. Assumes nothing.
 use Prim.Native.Nat.{ℕ}
-use mathlib.Core.List.{List, _∷_, [], _++_}
+use mathlib.Core.List.{List, _++_}
 use mathlib.Core.Path.{_≡_, refl, ap, _∙_, sym}
-use Prim.Native.String.{String}
 use Rattle.lexicon.specs.Answers.{answerOf}
 use Rattle.lexicon.specs.Texts.{RightEntry, Entry, texts}
 use Rattle.lexicon.proofs.Marks.{marked-once}
@@ -20,8 +19,8 @@ blocks-list b = blocks-answer b
 listed-once : (text x y : List ℕ) → Listed text x → Listed text y → x ≡ y
 listed-once text x y a b = a .line ∙ ap (λ m. answerOf (read text) m ++ ascii "\n") (marked-once (read text) (a .minimal) (b .minimal) (a .mark) (b .mark)) ∙ sym (b .line)
 
-pub one-listing : {input x y : List ℕ} → Lists input x → Lists input y → x ≡ y
-one-listing a b = answered-once listed-once a b
+pub one-listing : (input : List ℕ) {x y : List ℕ} → Lists input x → Lists input y → x ≡ y
+one-listing input a b = answered-once listed-once a b
 
 -- ---- document 01's example
 

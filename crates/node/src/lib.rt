@@ -124,16 +124,15 @@ pub fn create_node(s: &[u8], at: usize) -> NodeRead
     requires { ⌜ (at ≤ length (now s)) × (length (now s) ≤ 255) ⌝ }
     ensures { λ r. ⌜ r ≡ nodeAt (drop at (now (s .entry))) at ⌝ }
 {
-    if at < s.len() {
-        let b = s[at];
-        if b == b'(' {
-            return parse_node(s, at + 1);
-        }
-        if b == b'*' {
-            return read_reference(s, at + 1);
-        }
-        letter_node(b, at)
-    } else {
-        NodeRead::Refused(CdError::UnexpectedEnding { pos: at })
+    if s.len() <= at {
+        return NodeRead::Refused(CdError::UnexpectedEnding { pos: at });
     }
+    let b = s[at];
+    if b == b'(' {
+        return parse_node(s, at + 1);
+    }
+    if b == b'*' {
+        return read_reference(s, at + 1);
+    }
+    letter_node(b, at)
 }
