@@ -1,7 +1,9 @@
-# make test: `rt ci`, then the library's callers, the comparisons and the claims on what it has proved. make lib: the library for C and Rust. make callers: the
-# programs in C and the Rust crate over it. make compare: the comparisons alone, with more pairs; SEED=7 TEXTS=100000000 PAIRS=0 for a seed and counts of one's own.
-# make claims: docs/CLAIMS.md against the crates. make run: cdfile on standard input, or on a sample where that is a terminal. make list: cdlist likewise.
-# make bench: the table of docs/BENCHMARKS.md. Everything is built into target/.
+# make test: `rt ci`, then the library's callers, the programs, the comparisons and the claims on what it has proved.
+# make lib: the library for C and Rust. make callers: the programs in C and the Rust crate over it.
+# make programs: cdlist and cdfile where reading or writing fails. make run: cdfile on standard input, or on a sample where that is a terminal. make list: cdlist likewise.
+# make compare: the comparisons alone, with more pairs; SEED=7 TEXTS=100000000 PAIRS=0 for a seed and counts of one's own.
+# make claims: docs/CLAIMS.md against the crates. make bench: the table of docs/BENCHMARKS.md.
+# Everything is built into target/.
 
 SHELL = /bin/bash
 .SHELLFLAGS = -o pipefail -c
@@ -10,7 +12,7 @@ CC = gcc
 CFLAGS = -std=c11 -Wall -Wextra -ffp-contract=off
 LIB = target/staticlib
 
-.PHONY: test lib libs callers compare beside models oracle claims run list bench
+.PHONY: test lib libs callers programs compare beside models oracle claims run list bench
 
 # The seed of the texts and pairs by chance, and how many.
 SEED := $(shell date +%Y%m%d)
@@ -21,7 +23,7 @@ PAIRS = 1000000
 # verdict, is said again only if all passed.
 test:
 	@log=$$(mktemp); rt ci 2>&1 | tee $$log; status=$$?; mkdir -p target; mv $$log target/ci.log; exit $$status
-	@$(MAKE) --no-print-directory -j2 -O callers compare claims PAIRS=100000
+	@$(MAKE) --no-print-directory -j2 -O callers programs compare claims PAIRS=100000
 	@tail -n 1 target/ci.log
 
 lib: libs
@@ -39,7 +41,12 @@ callers: libs
 	@target/edges
 	@$(CC) $(CFLAGS) -pedantic -O2 -Iinclude -o target/example bindings/c/example.c $(LIB)/liblexicon_c.a
 	@target/example | diff bindings/c/example.stdout -
-	@cd bindings/rust && cargo test --offline --quiet
+	@cd bindings/rust && unset MAKEFLAGS && cargo clippy --offline --quiet --all-targets -- -D warnings && cargo test --offline --quiet
+
+# After the library, since two runs of rt in one target/ get in each other's way.
+programs: libs
+	@$(call prove,rt check cdlist cdfile)
+	@oracle/programs
 
 run: PROGRAM = cdfile
 list: PROGRAM = cdlist

@@ -32,7 +32,7 @@ from functools import lru_cache
 from pathlib import Path
 
 PUBLIC = ("lexicon", "geometry", "lexicon_c", "lexicon/proofs/Demand3.antt: demand-3")
-PROGRAMS = ("cdlist", "cdfile")
+PROGRAMS = ("cdlist", "cdfile", "cdlist/proofs/Whole.antt: blocks-list")
 
 TOP = Path(__file__).resolve().parent.parent
 CRATES = TOP / "crates"
