@@ -41,7 +41,7 @@ callers: libs
 	@target/edges
 	@$(CC) $(CFLAGS) -pedantic -O2 -Iinclude -o target/example bindings/c/example.c $(LIB)/liblexicon_c.a
 	@target/example | diff bindings/c/example.stdout -
-	@cd bindings/rust && unset MAKEFLAGS && cargo clippy --offline --quiet --all-targets -- -D warnings && cargo test --offline --quiet
+	@cd bindings/rust && unset MAKEFLAGS LEXICON_LIB && cargo clippy --offline --quiet --all-targets -- -D warnings && cargo test --offline --quiet
 
 # After the library, since two runs of rt in one target/ get in each other's way.
 programs: libs

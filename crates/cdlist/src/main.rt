@@ -2,16 +2,16 @@
 use lines::Block;
 ghost use Prim.Native.Nat.{_+_, _≤_, _<_};
 ghost use lib.ListN.{length};
-ghost use Rattle.cdlist.specs.Lists.{Listed};
+ghost use Rattle.cdlist.specs.Lists.{longest, Listed};
 ghost use Rattle.lines.specs.Blocks.{IsBlock};
 ghost use Rattle.lines.specs.Written.{AddsLine};
 
-// The most bytes of an answer with its LF.
-const LINE: usize = 87;
+// The most bytes that are written on a text.
+const LONGEST: usize = 87;
 
 fn line(text: &[u8], out: &mut [u8], at: usize) -> usize
-    requires { ⌜ at + 87 ≤ length (now out) ⌝ }
-    ensures { λ r. ⌜ AddsLine Listed (now (text .entry)) (now (out .entry)) at (now (out .exit)) r × (r ≤ at + 87) ⌝ }
+    requires { ⌜ at + longest ≤ length (now out) ⌝ }
+    ensures { λ r. ⌜ AddsLine Listed (now (text .entry)) (now (out .entry)) at (now (out .exit)) r × (r ≤ at + longest) ⌝ }
 {
     let r = lexicon::read(text);
     let to = lines::put_answer(out, at, r);
@@ -20,13 +20,13 @@ fn line(text: &[u8], out: &mut [u8], at: usize) -> usize
 
 // Answers lines from `from` on, as many as the buffer has room for.
 fn block(s: &[u8], from: usize, out: &mut [u8]) -> Block
-    requires { ⌜ (from < length (now s)) × (87 ≤ length (now out)) ⌝ }
+    requires { ⌜ (from < length (now s)) × (longest ≤ length (now out)) ⌝ }
     ensures { λ r. ⌜ IsBlock Listed (now (s .entry)) from (now (out .exit)) (r .next) (r .to) × (from < r .next) × (r .to ≤ length (now (out .exit))) ⌝ }
 {
     let mut i = from;
     let mut to = 0;
     while i < s.len() {
-        if out.len() - to < LINE {
+        if out.len() - to < LONGEST {
             return Block { next: i, to: to };
         }
         let end = lines::line_end(s, i);

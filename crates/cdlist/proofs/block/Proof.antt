@@ -7,13 +7,13 @@ use lib.ListN.{length}
 use borrow.Author.Needs.{needs}
 use Rattle.lines.proofs.Blocks.{block-none, block-line}
 use Rattle.lines.specs.Blocks.{IsBlock}
-use Rattle.cdlist.specs.Lists.{Listed}
+use Rattle.cdlist.specs.Lists.{longest, Listed}
 use Rattle.cdlist.proofs.block.Statement.{statement}
 use Rattle.cdlist.proofs.block.Tie as tie
 
 abbrev Inv-loop : tie.InvT-loop
 Inv-loop s from out₀ i₀ to₀ out i to =
-    IsBlock Listed s from out i to × (to ≤ length out) × (length out ≡ length out₀) × (from ≤ i) × (to ≤ 87 * (i - from))
+    IsBlock Listed s from out i to × (to ≤ length out) × (length out ≡ length out₀) × (from ≤ i) × (to ≤ longest * (i - from))
 
 abbrev μ-loop : tie.MeasureT-loop
 μ-loop s from out₀ i₀ to₀ out i to = length s - i
