@@ -32,7 +32,7 @@ from functools import lru_cache
 from pathlib import Path
 
 PUBLIC = ("lexicon", "geometry", "lexicon_c", "lexicon/proofs/Demand3.antt: demand-3")
-PROGRAMS = ("cdlist", "cdfile", "cdlist/proofs/Whole.antt: blocks-list")
+PROGRAMS = ("cdlist", "cdfile", "cdlist/proofs/Whole.antt: blocks-list", "cdfile/proofs/Filings.antt: blocks-show")
 
 TOP = Path(__file__).resolve().parent.parent
 CRATES = TOP / "crates"

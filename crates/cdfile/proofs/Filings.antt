@@ -1,8 +1,8 @@
 -- What is written of an answer, added part by part; and every answer of `write_record` numbers at most `limit` places, each with one digit: an accepted
--- text has at most `limit` nodes, and a refusal numbers none. Assumes nothing.
+-- text has at most `limit` nodes, and a refusal numbers none. Blocks put together are the whole output. Assumes nothing.
 use Prim.Native.Nat.{ℕ, _≤_, _<_}
 use Prim.Native.Char.{code}
-use mathlib.Core.List.{List, [], _∷_, map}
+use mathlib.Core.List.{List, [], _∷_, _++_, map}
 use mathlib.Core.Path.{_≡_, ap}
 use native.Mathlib.Omega.{arith}
 use lib.ListN.{length, getD, take}
@@ -14,14 +14,16 @@ use Rattle.filing.specs.Records.{recordLength}
 use Rattle.lexicon.specs.Files.{Files, refused, short, filed}
 use Rattle.lexicon.specs.declared.Filed.{Filed}
 use Rattle.lexicon.specs.Answers.{glyph, spaced}
-use Rattle.lines.specs.Written.{Adds}
+use Rattle.lines.specs.Blocks.{Blocks}
+use Rattle.lines.specs.Written.{Adds, AddsLine}
+use Rattle.lines.proofs.Blocks.{blocks-answer}
 use Rattle.lines.proofs.Writing.{adds-then}
 use Rattle.parse.specs.declared.Answer.{Answer}
 use Rattle.parse.specs.declared.Answer.the-variants as said
 use Rattle.parse.proofs.Outcomes.{accepted-few}
 use Rattle.scan.specs.Ascii.{ascii}
 use Rattle.tables.specs.Diagrams.{diagram}
-use Rattle.cdfile.specs.Shown.{hexes, shown, Shows}
+use Rattle.cdfile.specs.Shown.{hexes, shown, Shows, ShowsAll}
 
 -- ---- what is written of an answer
 
@@ -53,12 +55,14 @@ module _ {text out out′ : List ℕ} {r : Filed} where
       omega (arith, accepted-few text ns es h)
 
   pub shows-line : {a b c : List ℕ} {i j k : ℕ} → Files text out out′ r → recordLength limit ≤ length out → length out′ ≤ recordLength limit
-      → Adds a i b j (shown (r .answer) out′ (take (r .count) (r .numbering))) → Adds b j c k (ascii "\n") → Shows text a i c k
+      → Adds a i b j (shown (r .answer) out′ (take (r .count) (r .numbering))) → Adds b j c k (ascii "\n") → AddsLine Shows text a i c k
   shows-line f l m p q = record {
-    out = out;
-    out′ = out′;
-    filed = r;
-    files = f;
-    long = l;
-    line = rw (take-all (recordLength limit) out′ m) (adds-then _ _ p q);
+    bytes = shown (r .answer) out′ (take (r .count) (r .numbering)) ++ ascii "\n";
+    allowed = record { out = out; out′ = out′; filed = r; files = f; long = l; line = rw (take-all (recordLength limit) out′ m) };
+    added = adds-then _ _ p q;
   }
+
+-- ---- the whole output
+
+pub blocks-show : {input output : List ℕ} → Blocks Shows input 0 output → ShowsAll input output
+blocks-show b = blocks-answer b

@@ -2,6 +2,7 @@
 // gives it. Lines with the same record are one figure.
 use cd::LIMIT;
 use lexicon::Filed;
+use lines::Block;
 use parse::Answer;
 use records::RECORD;
 ghost use mathlib.Core.List.{map};
@@ -9,9 +10,13 @@ ghost use mathlib.Core.Path.{_≡_};
 ghost use Prim.Native.Nat.{ℕ, _+_, _*_, _≤_, _<_};
 ghost use lib.ListN.{length, getD, take};
 ghost use Rattle.cd.specs.Diagrams.{limit};
-ghost use Rattle.cdfile.specs.Shown.{hexGlyph, hexes, shown, Shows, LastEnd};
+ghost use Rattle.cdfile.specs.Shown.{hexGlyph, hexes, shown, longest, Shows, LastEnd, ToFile};
 ghost use Rattle.lexicon.specs.Answers.{glyph as the-glyph};
-ghost use Rattle.lines.specs.Written.{Adds};
+ghost use Rattle.lines.specs.Blocks.{IsBlock};
+ghost use Rattle.lines.specs.Written.{Adds, AddsLine};
+
+// The most bytes that are written on a text.
+const LONGEST: usize = 754;
 
 fn glyph(d: u8) -> u8
     requires { ⌜ d < 16 ⌝ }
@@ -72,13 +77,31 @@ fn put_filed(out: &mut [u8], at: usize, r: Filed, bytes: &[u8]) -> usize
 }
 
 fn line(text: &[u8], out: &mut [u8], at: usize) -> usize
-    requires { ⌜ at + 754 ≤ length (now out) ⌝ }
-    ensures { λ r. ⌜ Shows (now (text .entry)) (now (out .entry)) at (now (out .exit)) r × (r ≤ at + 754) ⌝ }
+    requires { ⌜ at + longest ≤ length (now out) ⌝ }
+    ensures { λ r. ⌜ AddsLine Shows (now (text .entry)) (now (out .entry)) at (now (out .exit)) r × (r ≤ at + longest) ⌝ }
 {
     let mut bytes = [0u8; RECORD];
     let r = lexicon::write_record(text, &mut bytes);
     let to = put_filed(out, at, r, &bytes);
     lines::put(out, to, b'\n')
+}
+
+// Answers lines from `from` on, as many as the buffer has room for.
+fn block(s: &[u8], from: usize, out: &mut [u8]) -> Block
+    requires { ⌜ (from < length (now s)) × (longest ≤ length (now out)) ⌝ }
+    ensures { λ r. ⌜ IsBlock Shows (now (s .entry)) from (now (out .exit)) (r .next) (r .to) × (from < r .next) × (r .to ≤ length (now (out .exit))) ⌝ }
+{
+    let mut i = from;
+    let mut to = 0;
+    while i < s.len() {
+        if out.len() - to < LONGEST {
+            return Block { next: i, to: to };
+        }
+        let end = lines::line_end(s, i);
+        to = line(&s[i..end], out, to);
+        i = end + 1;
+    }
+    Block { next: i, to: to }
 }
 
 // The place after the last LF, 0 if there is none.
@@ -97,10 +120,13 @@ fn last_end(s: &[u8]) -> usize
 
 // How many of the bytes read are to be filed: where more may follow than the buffer holds, those up to the last LF, so that no text is cut.
 fn to_file(text: &[u8]) -> usize
-    ensures { λ r. ⌜ r ≤ length (now (text .entry)) ⌝ }
+    ensures { λ r. ⌜ ToFile (now (text .entry)) r × (r ≤ length (now (text .entry))) ⌝ }
 {
+    if text.len() < 65536 {
+        return text.len();
+    }
     let mut next = [0u8; 1];
-    if text.len() < 65536 || libc::read(0, &mut next) == 0 {
+    if libc::read(0, &mut next) == 0 {
         return text.len();
     }
     lines::say(b"cdfile stops after 65,536 bytes, and files no line that goes on behind them\n");
@@ -112,13 +138,13 @@ fn main() {
     let read = lines::read_input(&mut text);
     let n = to_file(&text[..read]);
     let mut out = lines::buffer();
-    let mut at = 0;
     let mut from = 0;
     while from < n {
-        let end = lines::line_end(&text[..n], from);
-        at = line(&text[from..end], &mut out, at);
-        at = lines::flushed(&out, at);
-        from = end + 1;
+        let b = block(&text[..n], from, &mut out);
+        let to = b.to;
+        if !lines::write_output(&out[..to]) {
+            return;
+        }
+        from = b.next;
     }
-    lines::write_output(&out[..at]);
 }

@@ -1,5 +1,5 @@
 -- `cdfile::main` is safe and ends: no contract says what a program reads or writes. Assumes nothing.
-use Prim.Native.Nat.{_≤_, _-_}
+use Prim.Native.Nat.{_-_}
 use mathlib.Core.Path.{_≡_, sym}
 use lib.ListN.{length, take}
 use lib.Seq.{length-take-le}
@@ -8,16 +8,16 @@ use Rattle.cdfile.proofs.main.Statement.{statement}
 use Rattle.cdfile.proofs.main.Tie as tie
 
 abbrev Inv-loop : tie.InvT-loop
-Inv-loop text read n out₀ at₀ from₀ out at from = (at ≤ 8192) × (16384 ≡ length out) × (n ≡ length (take n text))
+Inv-loop text read n out₀ from₀ out from = (16384 ≡ length out) × (n ≡ length (take n text))
 
 abbrev μ-loop : tie.MeasureT-loop
-μ-loop text read n out₀ at₀ from₀ out at from = n - from
+μ-loop text read n out₀ from₀ out from = n - from
 
 loop-holds : tie.Need-loop-holds Inv-loop μ-loop
-loop-holds c = (search needs, search needs, sym (length-take-le _ _ (search needs)))
+loop-holds c = (search needs, sym (length-take-le _ _ (search needs)))
 
 slice-aggregate-write-output : tie.Need-slice-aggregate-write-output Inv-loop μ-loop
-slice-aggregate-write-output c = let l = c .before .before .loop in sym (length-take-le (l .at) (l .out) (search needs))
+slice-aggregate-write-output c = sym (length-take-le _ _ (search needs))
 
 pub main-spec : {M : Type 1} → statement M
 main-spec =
@@ -35,18 +35,12 @@ main-spec =
     loop-holds
     (λ c. search needs)
     (λ c. search needs)
-    (λ c κs. search needs)
-    (λ c. search needs)
-    (λ c. search needs)
-    (λ c. search needs)
     (λ c. search needs)
     (λ c κs. search needs)
-    (λ c. search needs)
-    (λ c κs. search needs)
-    (λ c. search needs)
-    (λ c. search needs)
-    (λ c. search needs)
     (λ c. search needs)
     slice-aggregate-write-output
     (λ c κs. search needs)
+    (λ c. search needs)
+    (λ c. search needs)
+    (λ c. search needs)
     (λ c. search needs))
