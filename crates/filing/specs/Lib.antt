@@ -5,4 +5,5 @@ pub mod Numberings
 pub mod Diagrams
 pub mod Records
 pub mod Readable
+pub mod Groups
 pub mod Searching

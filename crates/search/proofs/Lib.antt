@@ -1,3 +1,3 @@
 -- Laws that belong to no one function.
-pub mod Sides
-pub mod Found
+pub mod Order
+pub mod Moves

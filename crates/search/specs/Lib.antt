@@ -1,3 +1,6 @@
 -- What the search for the smallest layout promises, step by step.
-pub mod Sides
+pub mod Order
+pub mod Groups
+pub mod Ranks
+pub mod Blocks
 pub mod Search

@@ -1,36 +1,90 @@
--- The search over every numbering: what is asked of a numbering of which the first k places are filled, and what is found. N is the limit of nodes.
+-- Document 02, ticket K3: what the search is asked and what it finds. N is the limit of nodes. Public promises lean on `Smallest` alone.
 use mathlib.Core.Bool.{Bool, true, false}
 use mathlib.Core.List.{List}
-use mathlib.Core.Logic.{_≢_}
 use mathlib.Core.Path.{_≡_}
-use Prim.Native.Nat.{ℕ, _≤_, _<_}
+use Prim.Native.Nat.{ℕ, _-_, _*_, _≤_, _<_}
 use lib.ListN.{length, drop}
 use Rattle.filing.specs.Bytes.{_≼_}
-use Rattle.filing.specs.Numberings.{Injects, Numbering, at, plain}
-use Rattle.filing.specs.Searching.{IsNumbering, Improves}
-use Rattle.tables.specs.Tables.{tableLayout}
+use Rattle.filing.specs.Groups.{groupFactorials}
+use Rattle.filing.specs.Numberings.{Numbering, at, plain}
+use Rattle.tables.specs.Tables.{tableLayout, nodeAt}
 use Rattle.tables.specs.declared.Tables.{Tables}
-
--- r tells whether one of the first k places of p has v
-pub record Taken (k : ℕ) (p : List ℕ) (v : ℕ) (r : Bool) : Type 0 where
-  pub if-true : r ≡ true → (i : ℕ) × (i < k) × (at p i ≡ v)
-  pub if-false : r ≡ false → (i : ℕ) → i < k → at p i ≢ v
-
--- b is the best numbering so far; past its n places it is p
-pub record Ready (N n k : ℕ) (p b : List ℕ) : Type 0 where
-  pub few : n ≤ N
-  pub depth : k ≤ n
-  pub room : length p ≡ N
-  pub prefix : Injects k n (at p)
-  pub best : IsNumbering n b
-  pub spare : drop n b ≡ drop n p
-
-pub record Searched (N n : ℕ) (kinds bits pairs : List ℕ) (k : ℕ) (p b r : List ℕ) : Type 0 where
-  pub improves : Improves n (tableLayout N n kinds bits pairs) k p b r
-  pub spare : drop n r ≡ drop n p
+use Rattle.search.specs.Blocks.{base, block, Keyed}
+use Rattle.search.specs.Groups.{Grouped, Within, ways}
+use Rattle.search.specs.Order.{Agree, Before, AtMost, Side}
+use Rattle.search.specs.Ranks.{table}
 
 -- r numbers the nodes, no numbering lays out less, and past the nodes it is the plain one
 pub record Smallest (N : ℕ) (t : Tables) (r : List ℕ) : Type 0 where
   pub numbering : Numbering (t .count) (at r)
   pub least : (q : ℕ → ℕ) → Numbering (t .count) q → tableLayout N (t .count) (t .kinds) (t .bits) (t .pairs) (at r) ≼ tableLayout N (t .count) (t .kinds) (t .bits) (t .pairs) q
   pub spare : drop (t .count) r ≡ drop (t .count) (plain N)
+
+-- "It is proved to lie between 1 and the product of the groups' factorials"
+pub record Counted (t : Tables) (count : ℕ) : Type 0 where
+  pub some : 1 ≤ count
+  pub most : count ≤ groupFactorials (nodeAt t) (t .count)
+
+-- ---- from place j on
+
+-- p numbers n nodes group by group, and keys has the blocks up to place j of r's ranks
+pub record Begun (N n j : ℕ) (r ends p keys : List ℕ) : Type 0 where
+  pub few : n ≤ N
+  pub place : j ≤ n
+  pub digits : (u v : ℕ) → table N r u v < base
+  pub room : length p ≡ N
+  pub valid : Numbering n (at p)
+  pub groups : Grouped n ends (at p)
+  pub wide : length keys ≡ N * N
+  pub keyed : Keyed N (table N r) n j (at p) keys
+
+-- b is the best numbering so far, with its blocks in tops
+pub record Best (N n : ℕ) (r ends p b tops : List ℕ) : Type 0 where
+  pub room : length b ≡ N
+  pub valid : Numbering n (at b)
+  pub group : (i : ℕ) → i < n → at ends (at b i) ≡ at ends (at p i)
+  pub wide : length tops ≡ N
+  pub topped : (i : ℕ) → i < n → at tops i ≡ block (table N r) (at b) i
+
+-- s tells how the first j blocks of p stand to the best's
+pub record Ready (N n j s : ℕ) (r ends p keys b tops : List ℕ) : Type 0 where
+  pub begun : Begun N n j r ends p keys
+  pub best : Best N n r ends p b tops
+  pub side : Side j (block (table N r) (at p)) (block (table N r) (at b)) s
+
+-- from b to the best of it and of all that go on from the first j places of p; count numberings were carried to the end
+pub record Improves (e : ℕ → ℕ → ℕ) (ends : List ℕ) (n j : ℕ) (p b best : ℕ → ℕ) (count : ℕ) : Type 0 where
+  pub no-worse : AtMost n (block e best) (block e b)
+  pub covers : (q : ℕ → ℕ) → Within n ends j p q → AtMost n (block e best) (block e q)
+  pub prefix : Agree j (block e best) (block e p)
+  pub most : count ≤ ways ends p j (n - j)
+  pub some : Agree n (block e b) (block e p) → 1 ≤ count
+
+pub record Searched (N n j : ℕ) (r ends p b : List ℕ) (count : ℕ) (p′ keys′ b′ tops′ : List ℕ) : Type 0 where
+  pub back : p′ ≡ p
+  pub begun : Begun N n j r ends p keys′
+  pub best : Best N n r ends p b′ tops′
+  pub spare : drop n b′ ≡ drop n b
+  pub improves : Improves (table N r) ends n j (at p) (at b) (at b′) count
+
+-- ---- whether any numbering comes before given blocks
+
+-- the first j blocks of p are the given ones
+pub record Asked (N n j : ℕ) (r ends p keys tops : List ℕ) : Type 0 where
+  pub begun : Begun N n j r ends p keys
+  pub wide : length tops ≡ N
+  pub prefix : Agree j (block (table N r) (at p)) (at tops)
+
+pub record NoneLess (N n j : ℕ) (r ends p tops p′ keys′ : List ℕ) : Type 0 where
+  pub back : p′ ≡ p
+  pub begun : Begun N n j r ends p keys′
+  pub least : (q : ℕ → ℕ) → Within n ends j (at p) q → AtMost n (at tops) (block (table N r) q)
+
+pub record SomeLess (N n j : ℕ) (r ends p tops : List ℕ) : Type 0 where
+  pub numbering : ℕ → ℕ
+  pub within : Within n ends j (at p) numbering
+  pub less : Before n (block (table N r) numbering) (at tops)
+
+pub record Tested (N n j : ℕ) (r ends p tops : List ℕ) (answer : Bool) (p′ keys′ : List ℕ) : Type 0 where
+  pub if-true : answer ≡ true → NoneLess N n j r ends p tops p′ keys′
+  pub if-false : answer ≡ false → SomeLess N n j r ends p tops

@@ -63,7 +63,7 @@ module _ (cd : Cd) (ns : List Node) (es : List Stored) (held : cd ≡ cdOf ns es
       let long : length (cd .nodes) ≡ limit = ap length (nodes-held cd ns es held) ∙ length-padded (place Unringed) limit (map place ns) in
       at-map f (place Unringed) (cd .nodes) i (omega (arith, long)) ∙ ap f (node-held cd ns es held (place Unringed) i h)
 
-  pub tables-hold : (t : Tables) → t .count ≡ cd .count → t .kinds ≡ map (λ p. filed (p .node) .kind) (cd .nodes) → t .bits ≡ map (λ p. filed (p .node) .bits) (cd .nodes) → PairTable limit (cd .pairs) (t .pairs) → IsDiagram limit (diagram ns es) → Holds limit t (diagram ns es)
+  pub tables-hold : (t : Tables) → t .count ≡ cd .count → t .kinds ≡ map (λ p. filed (p .node) .kind) (cd .nodes) → t .bits ≡ map (λ p. filed (p .node) .bits) (cd .nodes) → PairTable limit (cd .count) (cd .pairs) (t .pairs) → IsDiagram limit (diagram ns es) → Holds limit t (diagram ns es)
   unfolding diagram
   tables-hold t n ks bs ps d = record {
     count = n ∙ count-held cd ns es held;
@@ -72,7 +72,7 @@ module _ (cd : Cd) (ns : List Node) (es : List Stored) (held : cd ≡ cdOf ns es
     pairs = λ i j h l ne.
         let low : i < limit = omega (arith, d .few) in
         let low′ : j < limit = omega (arith, d .few) in
-        ps i j low low′
+        ps i j (omega (arith, count-held cd ns es held)) low′
         ∙ ap pairNumber (ap (λ q. getD q (placeOf i j) none) (pairs-held cd ns es held) ∙ loaded es i j none low low′)
         ∙ number-between 1 es i j (d .edges i j h l ne .den-pos);
   }

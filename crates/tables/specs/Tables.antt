@@ -16,6 +16,7 @@ use Rattle.cd.specs.declared.Pair.{Pair}
 use Rattle.cd.specs.declared.Place.{Place}
 use Rattle.filing.specs.Bytes.{bytes, blocks, filled}
 use Rattle.filing.specs.Diagrams.{Diagram}
+use Rattle.filing.specs.Diagrams as filing
 use Rattle.filing.specs.Fractions.{Fraction, lowest}
 use Rattle.filing.specs.Numberings.{at}
 use Rattle.filing.specs.Records.{nodesLength, pairsLength}
@@ -42,9 +43,19 @@ unfoldable pub pairNumber : Pair → ℕ
 unfolding number
 pairNumber p = pick (eqb (p .edge .den) 0) (number two) (number (fraction (p .edge)))
 
--- in a table of N × N places, the numbers of the pairs
-abbrev pub PairTable : ℕ → List Pair → List ℕ → Type 0
-PairTable N ps r = (i j : ℕ) → i < N → j < N → at r (N * i + j) ≡ pairNumber (getD ps (placeOf i j) none)
+-- in a table of N × N places, the numbers of the pairs of n nodes
+abbrev pub PairTable : ℕ → ℕ → List Pair → List ℕ → Type 0
+PairTable N n ps r = (i j : ℕ) → i < n → j < N → at r (N * i + j) ≡ pairNumber (getD ps (placeOf i j) none)
+
+-- the entries fit their bytes
+pub record Fits (t : Tables) : Type 0 where
+  pub kinds : (i : ℕ) → at (t .kinds) i < 256
+  pub bits : (i : ℕ) → at (t .bits) i < 2 ^ 64
+  pub pairs : (i : ℕ) → at (t .pairs) i < 2 ^ 64
+
+-- the node that tables hold
+abbrev pub nodeAt : Tables → ℕ → filing.Node
+nodeAt t i = record { kind = at (t .kinds) i; bits = at (t .bits) i }
 
 -- the tables hold a diagram
 pub record Holds (N : ℕ) (t : Tables) (d : Diagram) : Type 0 where

@@ -7,14 +7,14 @@ use cd::Pair;
 use cd::SQUARE;
 ghost use mathlib.Core.List.{List, map};
 ghost use mathlib.Core.Path.{_≡_};
-ghost use Prim.Native.Nat.{_+_, _*_, _<_};
+ghost use Prim.Native.Nat.{_+_, _*_, _≤_, _<_};
 ghost use Rattle.cd.specs.Diagrams.{Stored, limit, cdOf};
 ghost use Rattle.cd.specs.declared.Node.{Node as ANode};
 ghost use Rattle.filing.specs.Diagrams.{IsDiagram};
 ghost use Rattle.filing.specs.Fractions.{gcd as the-gcd};
 ghost use Rattle.filing.specs.Numberings.{at};
 ghost use Rattle.tables.specs.Diagrams.{filed, fraction, diagram};
-ghost use Rattle.tables.specs.Tables.{IsNumber, Numbers, number, pairNumber, PairTable, Holds};
+ghost use Rattle.tables.specs.Tables.{IsNumber, Numbers, number, pairNumber, PairTable, Fits, Holds};
 
 pub struct Tables {
     pub count: usize,
@@ -108,12 +108,14 @@ fn blank() -> [u64; SQUARE] {
     [0; SQUARE]
 }
 
-// For the nodes u and v, at LIMIT × u + v, the number of their pair.
+// For the nodes u and v, at LIMIT × u + v, the number of their pair; only the nodes' rows are filled.
 fn pairs_of(cd: Cd) -> [u64; SQUARE]
-    ensures { λ r. ⌜ PairTable limit (cd .pairs) r ⌝ }
+    requires { ⌜ cd .count ≤ limit ⌝ }
+    ensures { λ r. ⌜ PairTable limit (cd .count) (cd .pairs) r ⌝ }
 {
     let mut out = blank();
-    for k in 0..SQUARE {
+    let m = LIMIT * cd.count;
+    for k in 0..m {
         let p = cd.pairs[cd::pair_place(k / LIMIT, k % LIMIT)];
         out[k] = pair_number(p);
     }
@@ -121,8 +123,8 @@ fn pairs_of(cd: Cd) -> [u64; SQUARE]
 }
 
 pub fn of(cd: Cd) -> Tables
-    requires { ⌜ Numbers (cd .nodes) ⌝ }
-    ensures { λ t. ⌜ (t .count ≡ cd .count) × ((ns : List ANode) (es : List Stored) → cd ≡ cdOf ns es → IsDiagram limit (diagram ns es) → Holds limit t (diagram ns es)) ⌝ }
+    requires { ⌜ Numbers (cd .nodes) × (cd .count ≤ limit) ⌝ }
+    ensures { λ t. ⌜ (t .count ≡ cd .count) × Fits t × ((ns : List ANode) (es : List Stored) → cd ≡ cdOf ns es → IsDiagram limit (diagram ns es) → Holds limit t (diagram ns es)) ⌝ }
 {
     Tables {
         count: cd.count,

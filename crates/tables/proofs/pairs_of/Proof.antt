@@ -1,4 +1,4 @@
--- `tables::pairs_of` meets its contract. The invariant: at each place below k stands the number of its pair; the measure is what is left of 81. Assumes nothing.
+-- `tables::pairs_of` meets its contract. The invariant: at each place below k stands the number of its pair; the measure is what is left of the rows. Assumes nothing.
 use Prim.Native.Nat.{ℕ, _+_, _-_, _*_, _/_, _%_, _≤_, _<_}
 use mathlib.Core.List.{List}
 use mathlib.Core.Path.{_≡_, ap, _∙_}
@@ -20,13 +20,16 @@ abbrev Numbered : List Pair → List ℕ → ℕ → Type 0
 Numbered ps out m = at out m ≡ pairNumber (getD ps (placeOf (m / limit) (m % limit)) none)
 
 abbrev Inv-loop : tie.InvT-loop
-Inv-loop cd out₀ k₀ out k = (k ≤ 81) × (length out ≡ 81) × ((m : ℕ) → m < k → Numbered (cd .pairs) out m)
+Inv-loop cd out₀ m k₀ out k = (k ≤ m) × (length out ≡ 81) × ((i : ℕ) → i < k → Numbered (cd .pairs) out i)
 
 abbrev μ-loop : tie.MeasureT-loop
-μ-loop cd out₀ k₀ out k = 81 - k
+μ-loop cd out₀ m k₀ out k = m - k
 
 blank-requires : tie.Need-blank-requires Inv-loop μ-loop
 blank-requires c κs = search needs
+
+mul-m : tie.Need-mul-m Inv-loop μ-loop
+mul-m c = search needs
 
 loop-holds : tie.Need-loop-holds Inv-loop μ-loop
 loop-holds c = (search needs, search needs, λ m h. let z : ⊥ = omega arith in absurd z)
@@ -82,6 +85,7 @@ pairs-of-spec =
     Inv-loop
     μ-loop
     blank-requires
+    mul-m
     loop-holds
     pair-place-requires
     mul-p
