@@ -2,6 +2,7 @@
 pub mod Order
 pub mod Moves
 pub mod Blocks
+pub mod Laid
 pub mod Candidates
 pub mod Counting
 pub mod Steps
