@@ -8,3 +8,4 @@ pub mod Places
 pub mod Filing
 pub mod Searching
 pub mod Readback
+pub mod Groups

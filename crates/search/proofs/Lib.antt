@@ -1,9 +1,11 @@
 -- Laws that belong to no one function.
 pub mod Order
 pub mod Moves
+pub mod Groups
+pub mod Counting
 pub mod Blocks
+pub mod Rows
 pub mod Laid
 pub mod Candidates
-pub mod Counting
 pub mod Steps
 pub mod Passing
