@@ -5,6 +5,7 @@ pub mod Groups
 pub mod Counting
 pub mod Blocks
 pub mod Rows
+pub mod Ranking
 pub mod Laid
 pub mod Candidates
 pub mod Steps
