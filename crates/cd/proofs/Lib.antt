@@ -1,3 +1,4 @@
--- The laws of the arrays that hold a diagram.
+-- The laws of the arrays that hold a diagram, and of tests that decide.
 pub mod Arrays
 pub mod Stored
+pub mod Decided

@@ -23,7 +23,7 @@ use Rattle.filing.specs.Readable.{numberAt, nodeAt}
 use Rattle.filing.specs.Records.{nodeLength}
 use Rattle.filing.proofs.Bytes.{length-singles}
 use Rattle.readback.specs.Spelled.{node, nodesTo}
-use Rattle.readback.proofs.Decided.{decides-no}
+use Rattle.cd.proofs.Decided.{decides-no}
 
 -- ---- whether bits are a number's
 

@@ -10,3 +10,4 @@ pub mod Laid
 pub mod Candidates
 pub mod Steps
 pub mod Passing
+pub mod Whole

@@ -9,7 +9,7 @@ use Rattle.cd.specs.Minimal.{Decides}
 use Rattle.filing.specs.Diagrams.{IsNode}
 use Rattle.filing.specs.Readable.{nodeAt}
 use Rattle.readback.specs.Steps.{NodesTo}
-use Rattle.readback.proofs.Decided.{decides-yes, decides-not-all}
+use Rattle.cd.proofs.Decided.{decides-yes, decides-not-all}
 use Rattle.readback.proofs.Nodes.{node-read}
 use Rattle.readback.proofs.are_nodes.Statement.{statement}
 use Rattle.readback.proofs.are_nodes.Tie as tie

@@ -12,7 +12,7 @@ use Rattle.filing.specs.Diagrams.{IsEdge}
 use Rattle.filing.specs.Readable.{fractionAt}
 use Rattle.filing.specs.Records.{nodesLength}
 use Rattle.readback.specs.Steps.{halves}
-use Rattle.readback.proofs.Decided.{decides-yes, decides-not-all}
+use Rattle.cd.proofs.Decided.{decides-yes, decides-not-all}
 use Rattle.readback.proofs.Numbers.{fraction-halves}
 use Rattle.readback.proofs.PairPlaces.{pairs, square-pairs, square-above, square-fewer}
 use Rattle.readback.proofs.are_pairs.Statement.{statement}

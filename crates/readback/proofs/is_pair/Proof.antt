@@ -1,7 +1,7 @@
 -- `readback::is_pair` meets its contract: the tests are those of an edge, whose num fits since 64 bits hold both. Assumes nothing.
 use native.Mathlib.Omega.{arith}
 use borrow.Author.Tests.{ltb-true, lt-ltb}
-use Rattle.readback.proofs.Decided.{decides-no}
+use Rattle.cd.proofs.Decided.{decides-no}
 use Rattle.readback.proofs.is_pair.Statement.{statement}
 use Rattle.readback.proofs.is_pair.Tie as tie
 

@@ -2,7 +2,7 @@
 use native.Mathlib.Omega.{arith}
 use borrow.Author.Needs.{needs}
 use borrow.Author.Tests.{not-true, not-false}
-use Rattle.readback.proofs.Decided.{decides-no, refutes, decides-same}
+use Rattle.cd.proofs.Decided.{decides-no, refutes, decides-same}
 use Rattle.readback.proofs.SpelledDiagrams.{spelled-few, spelled-nodes, spelled-pairs, spelled-diagram}
 use Rattle.readback.proofs.is_spelled.Statement.{statement}
 use Rattle.readback.proofs.is_spelled.Tie as tie

@@ -17,7 +17,7 @@ use Rattle.parse.specs.declared.Answer.the-variants as said
 use Rattle.tables.specs.Tables.{Holds}
 use Rattle.tables.proofs.TableLayouts.{numbers-held}
 use Rattle.readback.specs.ReadBack.{wrong-length, no-diagram}
-use Rattle.readback.proofs.Decided.{refutes}
+use Rattle.cd.proofs.Decided.{refutes}
 use Rattle.readback.proofs.ReadBackLaws.{readable-spelled}
 use Rattle.readback.proofs.SpelledLaws.{readBack, spelled-is-diagram, spelled-numbers}
 use Rattle.readback.proofs.Tested.{tables-few, plain-numbers, not-laid, not-smallest, read-smallest}

@@ -2,13 +2,18 @@
 use mathlib.Core.Bool.{Bool, true, false, true≢false}
 use mathlib.Core.Path.{_≡_, refl, sym, _∙_}
 use Prim.Native.Nat.{ℕ, _<_}
 use Rattle.cd.specs.Minimal.{Decides}
 
 pub decides-yes : {P : Type 0} → P → Decides P true
 decides-yes p = record { only-when = λ _. p; when = λ _. refl }
 
 pub decides-no : {P : Type 0} → (P → ⊥) → Decides P false
 decides-no n = record { only-when = λ e. absurd (true≢false (sym e)); when = λ p. absurd (n p) }
+
+-- by either answer
+pub decides-by : {P : Type 0} (r : Bool) → (r ≡ true → P) → (r ≡ false → P → ⊥) → Decides P r
+decides-by true y n = decides-yes (y refl)
+decides-by false y n = decides-no (n refl)
 
 -- a test that fails refutes
 pub refutes : {P : Type 0} {r : Bool} → Decides P r → r ≡ false → P → ⊥
