@@ -1,5 +1,4 @@
 -- The laws of reading a record back: numbers, nodes and pairs in their places; what bytes spell, and what a record is read back as.
-mod Decided
 mod Numbers
 mod Nodes
 mod PairPlaces

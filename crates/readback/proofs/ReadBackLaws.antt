@@ -1,5 +1,5 @@
 -- Bytes can be read exactly when the diagram that they spell has them for its record, and the diagram that is read back has the spelled one's layouts: so
--- bytes that are its smallest layout are its record, and bytes that can be read are no other. Of bytes there is at most one reading. Assumes nothing.
+-- bytes that are its smallest layout are its record, and of bytes that can be read no layout is smaller. Of bytes there is at most one reading. Assumes nothing.
 use mathlib.Core.List.{List}
 use mathlib.Core.Path.{_≡_, refl, sym, ap, _∙_, subst}
 use Prim.Native.Nat.{ℕ}
@@ -11,7 +11,6 @@ use Rattle.filing.specs.Readable.{Readable, spelled}
 use Rattle.filing.specs.Records.{recordLength, layout, IsRecord}
 use Rattle.filing.proofs.Layouts.{length-layout}
 use Rattle.filing.proofs.Numberings.{identity}
-use Rattle.filing.proofs.Order.{≼-antisym}
 use Rattle.filing.proofs.Readback.{is-record-iff, spelled-laid}
 use Rattle.parse.specs.Reading.{Reading, Accepted}
 use Rattle.readback.specs.ReadBack.{ReadBack, wrong-length, no-diagram, record-of}
@@ -31,11 +30,10 @@ module _ (N : ℕ) (l : List ℕ) (r : Readable N l) where
   pub readable-laid : layout N (readBack N l) (λ i. i) ≡ l
   readable-laid = spelled-layout N l readable-spelled (λ i. i) (identity (spelled N l .size)) ∙ spelled-laid N l r
 
-  pub readable-smallest : (p : ℕ → ℕ) → Numbering (readBack N l .size) p → Smallest N (readBack N l) p → layout N (readBack N l) p ≡ l
-  readable-smallest p np least =
-      let nq : Numbering (spelled N l .size) p = rw (spelled-size N l) at np in
-      let below = is-record-iff N l .0 r .1 .least p nq in
-      ≼-antisym (rw readable-laid at (least (λ i. i) (identity (readBack N l .size)))) (rw (spelled-layout N l readable-spelled p nq) below)
+  pub readable-least : (q : ℕ → ℕ) → Numbering (readBack N l .size) q → l ≼ layout N (readBack N l) q
+  readable-least q nq =
+      let n : Numbering (spelled N l .size) q = rw (spelled-size N l) at nq in
+      rw (spelled-layout N l readable-spelled q n) (is-record-iff N l .0 r .1 .least q n)
 
 pub readable-length : (N : ℕ) (l : List ℕ) → Readable N l → length l ≡ recordLength N
 readable-length N l (d, w, r) = ap length (r .laid) ∙ length-layout N d (w .few) (r .numbering)

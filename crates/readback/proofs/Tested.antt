@@ -1,7 +1,7 @@
 -- What the two tests of a record tell, of bytes that spell a diagram which tables hold: bytes that are not its layout as they stand, or not its smallest one,
 -- are no record; bytes that are its smallest layout are read back as it. Assumes nothing.
 use mathlib.Core.List.{List}
-use mathlib.Core.Path.{_≡_, sym, _∙_, subst, subst₂}
+use mathlib.Core.Path.{_≡_, refl, sym, _∙_, subst, subst₂}
 use Prim.Native.Nat.{ℕ, _≤_}
 use native.Mathlib.Omega.{arith}
 use Rattle.filing.specs.Bytes.{_≼_}
@@ -19,7 +19,7 @@ use Rattle.tables.proofs.TableLayouts.{table-layout}
 use Rattle.readback.specs.ReadBack.{ReadBack}
 use Rattle.readback.specs.Spelled.{nodesIn, edgesIn}
 use Rattle.readback.proofs.SpelledLaws.{readBack, spelled-is-diagram}
-use Rattle.readback.proofs.ReadBackLaws.{readable-laid, readable-smallest, smallest-read}
+use Rattle.readback.proofs.ReadBackLaws.{readable-laid, readable-least, smallest-read}
 
 module _ (N : ℕ) (l : List ℕ) (w : IsDiagram N (spelled N l)) (t : Tables) (held : Holds N t (readBack N l)) where
   abbrev laid : (ℕ → ℕ) → List ℕ
@@ -46,14 +46,19 @@ module _ (N : ℕ) (l : List ℕ) (w : IsDiagram N (spelled N l)) (t : Tables) (
       let plainly = layout-local N (readBack N l) (at (plain N)) (λ i. i) (λ i h. at-plain N i (omega (arith, is .few))) in
       ne (sym (same-layout (at (plain N)) plain-numbers ∙ plainly ∙ readable-laid N l r))
 
-  module _ (p : List ℕ) (found : Smallest N t p) where
-    least : (q : ℕ → ℕ) → Numbering (readBack N l .size) q → layout N (readBack N l) (at p) ≼ layout N (readBack N l) q
-    least q nq =
-        let mq : Numbering (t .count) q = subst (λ n. Numbering n q) (sym (held .count)) nq in
-        subst₂ _≼_ (same-layout (at p) (found .numbering)) (same-layout q mq) (found .least q mq)
+  -- bytes that are the layout as it stands
+  module _ (e : l ≡ laid (at (plain N))) where
+    pub not-smallest : (Smallest N t (plain N) → ⊥) → Readable N l → ⊥
+    not-smallest ne r = ne record {
+      numbering = plain-numbers;
+      least = λ q nq. subst (λ z. z ≼ laid q) e (rw (same-layout q nq) (readable-least N l r q (numbers nq)));
+      spare = refl;
+    }
 
-    pub not-smallest : (l ≡ laid (at p) → ⊥) → Readable N l → ⊥
-    not-smallest ne r = ne (sym (same-layout (at p) (found .numbering) ∙ readable-smallest N l r (at p) (numbers (found .numbering)) least))
-
-    pub read-smallest : l ≡ laid (at p) → ReadBack N l (Accepted (nodesIn l) (edgesIn N l))
-    read-smallest e = smallest-read N l (at p) (numbers (found .numbering)) least (e ∙ same-layout (at p) (found .numbering)) w
+    pub read-smallest : Smallest N t (plain N) → ReadBack N l (Accepted (nodesIn l) (edgesIn N l))
+    read-smallest found = smallest-read N l (at (plain N)) (numbers plain-numbers) least (e ∙ same-layout (at (plain N)) plain-numbers) w
+      where
+        least : (q : ℕ → ℕ) → Numbering (readBack N l .size) q → layout N (readBack N l) (at (plain N)) ≼ layout N (readBack N l) q
+        least q nq =
+            let mq : Numbering (t .count) q = subst (λ n. Numbering n q) (sym (held .count)) nq in
+            subst₂ _≼_ (same-layout (at (plain N)) plain-numbers) (same-layout q mq) (found .least q mq)

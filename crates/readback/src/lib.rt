@@ -226,12 +226,12 @@ pub fn read(s: &[u8]) -> Read
     }
     let cd = spelled(s);
     let t = tables::of(cd);
-    let laid = records::is_layout(s, t, search::plain());
+    let n = t.count;
+    let laid = records::is_layout(s, &t.kinds, &t.bits, &t.pairs, n, search::plain());
     if !laid {
         return parse::refused(CdError::NoDiagram);
     }
-    let smallest = records::is_layout(s, t, search::smallest(t));
-    if !smallest {
+    if !search::is_smallest(&t.kinds, &t.bits, &t.pairs, n) {
         return parse::refused(CdError::NoDiagram);
     }
     Read {

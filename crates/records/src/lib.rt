@@ -2,7 +2,6 @@
 use cd::Cd;
 use cd::LIMIT;
 use cd::SQUARE;
-use tables::Tables;
 ghost use mathlib.Core.List.{List, _∷_, _++_};
 ghost use mathlib.Core.Path.{_≡_};
 ghost use Prim.Native.Nat.{_+_, _*_, _-_, _≤_, _<_};
@@ -94,17 +93,20 @@ fn put_pairs(out: &mut [u8], pairs: &[u64; SQUARE], n: usize, p: [usize; LIMIT])
 }
 
 // The layout under a numbering.
-fn lay(out: &mut [u8], t: Tables, p: [usize; LIMIT])
-    requires { ⌜ (t .count ≤ limit) × Numbering (t .count) (at p) × (recordLength limit ≤ length (now out)) ⌝ }
-    ensures { λ _. ⌜ now (out .exit) ≡ tableLayout limit (t .count) (t .kinds) (t .bits) (t .pairs) (at p) ++ drop (recordLength limit) (now (out .entry)) ⌝ }
+fn lay<'a>(
+    out: &mut [u8],
+    kinds: &'a [u8; LIMIT],
+    bits: &'a [u64; LIMIT],
+    pairs: &'a [u64; SQUARE],
+    n: usize,
+    p: [usize; LIMIT],
+)
+    requires { ⌜ (n ≤ limit) × Numbering n (at p) × (recordLength limit ≤ length (now out)) ⌝ }
+    ensures { λ _. ⌜ now (out .exit) ≡ tableLayout limit n (now (kinds .entry)) (now (bits .entry)) (now (pairs .entry)) (at p) ++ drop (recordLength limit) (now (out .entry)) ⌝ }
 {
-    let n = t.count;
-    let kinds = t.kinds;
-    let bits = t.bits;
-    let pairs = t.pairs;
     put_count(out, n);
-    put_nodes(out, &kinds, &bits, n, p);
-    put_pairs(out, &pairs, n, p);
+    put_nodes(out, kinds, bits, n, p);
+    put_pairs(out, pairs, n, p);
 }
 
 // Whether two slices hold the same bytes.
@@ -125,12 +127,19 @@ fn same(a: &[u8], b: &[u8]) -> bool
 }
 
 // Whether bytes are the layout under a numbering.
-pub fn is_layout(s: &[u8], t: Tables, p: [usize; LIMIT]) -> bool
-    requires { ⌜ (t .count ≤ limit) × Numbering (t .count) (at p) ⌝ }
-    ensures { λ r. ⌜ Decides (now (s .entry) ≡ tableLayout limit (t .count) (t .kinds) (t .bits) (t .pairs) (at p)) r ⌝ }
+pub fn is_layout<'a>(
+    s: &[u8],
+    kinds: &'a [u8; LIMIT],
+    bits: &'a [u64; LIMIT],
+    pairs: &'a [u64; SQUARE],
+    n: usize,
+    p: [usize; LIMIT],
+) -> bool
+    requires { ⌜ (n ≤ limit) × Numbering n (at p) ⌝ }
+    ensures { λ r. ⌜ Decides (now (s .entry) ≡ tableLayout limit n (now (kinds .entry)) (now (bits .entry)) (now (pairs .entry)) (at p)) r ⌝ }
 {
     let mut out = [0u8; RECORD];
-    lay(&mut out, t, p);
+    lay(&mut out, kinds, bits, pairs, n, p);
     same(s, &out)
 }
 
@@ -140,7 +149,9 @@ pub fn write(cd: Cd, out: &mut [u8]) -> [usize; LIMIT]
     ensures { λ p. ⌜ ((ns : List Node) (es : List Stored) → cd ≡ cdOf ns es → IsDiagram limit (diagram ns es) → Written limit (diagram ns es) (now (out .entry)) (now (out .exit)) p) ⌝ }
 {
     let t = tables::of(cd);
-    let p = search::smallest(t);
-    lay(out, t, p);
+    let n = t.count;
+    let found = search::smallest(&t.kinds, &t.bits, &t.pairs, n);
+    let p = found.numbering;
+    lay(out, &t.kinds, &t.bits, &t.pairs, n, p);
     p
 }

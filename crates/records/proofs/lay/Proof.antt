@@ -20,9 +20,9 @@ same-length c = search needs
 
 returns : tie.Need-returns
 returns c =
-    let s = c .before .before .before .before .before .before .before .before .before .before .before .before .before .before .before .before .before .before .before in
-    let t = s .args .t in
-    cc (layout-written limit (t .count) (t .kinds) (t .bits) (t .pairs) (at (s .args .p)) (s .pre .0) (s .args .out .now))
+    let s = c .before .before .before .before .before .before .before .before .before .before .before .before .before in
+    let a = s .args in
+    cc (layout-written limit (a .n) (a .kinds .now) (a .bits .now) (a .pairs .now) (at (a .p)) (s .pre .0) (a .out .now))
 
 pub lay-spec : {M : Type 1} → statement M
 lay-spec =

@@ -9,23 +9,25 @@ use Rattle.records.proofs.write.Statement.{statement}
 use Rattle.records.proofs.write.Tie as tie
 
 of-requires : tie.Need-of-requires
-of-requires c κs = c .before .pre .0
+of-requires c κs = (c .before .pre .0, c .before .pre .1)
+
+few : (c : tie.After-of) → c .of .result .count ≤ limit
+few c = subst (λ n. n ≤ limit) (sym (c .of .ensures .0)) (c .before .before .pre .1)
 
 smallest-requires : tie.Need-smallest-requires
-smallest-requires c κs = subst (λ n. n ≤ limit) (sym (c .of .ensures .0)) (c .before .before .pre .1)
+smallest-requires c κs = let o = c .before .before .before .before in (few o, o .of .ensures .1)
 
 lay-requires : tie.Need-lay-requires
-lay-requires c κs =
-    let p = c .before .before .before .before .pre in
-    (subst (λ n. n ≤ limit) (sym (c .before .before .of .ensures .0)) (p .1), c .before .smallest .ensures .numbering, p .2)
+lay-requires c κs = let o = c .before .before .before .before .before .before .before .before .before .before .before in (few o, c .before .before .before .before .before .before .smallest .ensures .0 .numbering, o .before .before .pre .2)
 
 same-length : tie.Need-same-length
 same-length c = search needs
 
 returns : tie.Need-returns
 returns c ns es held is =
-    let s = c .before .before .before .before in
-    record-written limit (s .before .of .result) (diagram ns es) (s .before .of .ensures .1 ns es held is) is (s .smallest .result) (s .smallest .ensures) _ _ (c .before .before .lay .ensures)
+    let o = c .before .before .before .before .before .before .before .before .before .before .before .before .before .before in
+    let found = c .before .before .before .before .before .before .before .before .before .smallest in
+    record-written limit (o .of .result) (diagram ns es) (o .of .ensures .2 ns es held is) is (found .result .numbering) (found .ensures .0) _ _ (c .before .before .lay .ensures)
 
 pub write-spec : {M : Type 1} → statement M
 write-spec = tie.close (tie.spec of-requires smallest-requires lay-requires same-length returns)
