@@ -67,6 +67,7 @@ models: oracle
 	@python3 oracle/answers.py
 	@python3 oracle/cox.py
 	@python3 oracle/filing.py
+	@python3 oracle/counts.py
 
 oracle:
 	@oracle/build
