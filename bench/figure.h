@@ -25,7 +25,10 @@ int compare_nodes(const struct figure *f, int a, int b);
 // Lays out the record's 370 bytes with node numbering[i] in place i.
 void lay_out(const struct figure *f, const int *numbering, uint8_t *out);
 
-// Text to bytes: the record by a search of every numbering; a form of nauty's numbering (only where NAUTY is defined).
+// How many numberings the plain C search carries to the end.
+uint64_t count_plain(const char *text);
+
+// Text to bytes: the record by that search; a form of nauty's numbering (only where NAUTY is defined).
 void file_plain(const char *text, uint8_t *out);
 void file_nauty(const char *text, uint8_t *out);
 

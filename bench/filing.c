@@ -12,17 +12,19 @@ struct work {
     const char *text;
 };
 
-// A figure, the same figure numbered otherwise, and another figure.
+// A figure, the same figure numbered otherwise, and another figure; how many numberings of the first the search carries to the end, as
+// oracle/counts.py finds and crates/replay_search shows of ours.
 static const struct texts {
     const char *name, *text, *same, *other;
+    uint64_t count;
 } figures[] = {
-    {"`x4o3o`", "x4o3o", "o3o4x", "o4o3x"},
-    {"`x3x3x3x3x3x`", "x3x3x3x3x3x", "x3x3x x3x3x *a3*d", "x3x3x3x3x *c3x"},
-    {"`x3x3x3x3x3x3x3x3x`", "x3x3x3x3x3x3x3x3x", "x3x3x3x3x x3x3x3x *a3*f", "x3x3x3x3x3x3x3x *c3x"},
-    {"`ooooooooo`", "ooooooooo", "o2o2o2o2o2o2o2o2o", "oooooooo3o"},
-    {"E8, `x3o3o3o3o3o3o *e3o`", "x3o3o3o3o3o3o *e3o", "o3o3o3o3o3o3x *c3o", "o3o3o3o3o3o3x *e3o"},
-    {"cycle, `x3x3x3x3x3x3x3x3x3*a`", "x3x3x3x3x3x3x3x3x3*a", "x3x3x3x3x x3x3x3x *a3*f *e3*i", "x3x3x3*a x3x3x3x3x3x3*d"},
-    {"nine lengths, `x3q3f3h3k3u3w3F3e`", "x3q3f3h3k3u3w3F3e", "e3F3w3u3k3h3f3q3x", "q3x3f3h3k3u3w3F3e"},
+    {"`x4o3o`", "x4o3o", "o3o4x", "o4o3x", 2},
+    {"`x3x3x3x3x3x`", "x3x3x3x3x3x", "x3x3x x3x3x *a3*d", "x3x3x3x3x *c3x", 28},
+    {"`x3x3x3x3x3x3x3x3x`", "x3x3x3x3x3x3x3x3x", "x3x3x3x3x x3x3x3x *a3*f", "x3x3x3x3x3x3x3x *c3x", 499},
+    {"`ooooooooo`", "ooooooooo", "o2o2o2o2o2o2o2o2o", "oooooooo3o", 362880},
+    {"E8, `x3o3o3o3o3o3o *e3o`", "x3o3o3o3o3o3o *e3o", "o3o3o3o3o3o3x *c3o", "o3o3o3o3o3o3x *e3o", 68},
+    {"cycle, `x3x3x3x3x3x3x3x3x3*a`", "x3x3x3x3x3x3x3x3x3*a", "x3x3x3x3x x3x3x3x *a3*f *e3*i", "x3x3x3*a x3x3x3x3x3x3*d", 223},
+    {"nine lengths, `x3q3f3h3k3u3w3F3e`", "x3q3f3h3k3u3w3F3e", "e3F3w3u3k3h3f3q3x", "q3x3f3h3k3u3w3F3e", 1},
 };
 
 static void file_proved(const char *text, uint8_t *out)
@@ -60,6 +62,12 @@ static void check_bytes(const char *text)
         fail("record", text, "the plain C search finds another");
 }
 
+static void check_count(const struct texts *t)
+{
+    if (count_plain(t->text) != t->count)
+        fail("record", t->text, "the plain C search carries another number of numberings to the end");
+}
+
 static void put(const struct texts *t, filer *file, const char *name)
 {
     struct work ours = {file_proved, t->text}, other = {file, t->text};
@@ -70,6 +78,7 @@ void filing_rows(void)
 {
     for (const struct texts *t = figures; t < figures + sizeof figures / sizeof *figures; t++) {
         check_bytes(t->text);
+        check_count(t);
         check_identity(file_proved, t);
         put(t, file_plain, "plain C search");
 #ifdef NAUTY
