@@ -13,7 +13,8 @@ import filing
 import model
 
 MOST = 65000
-SAME, SAME_BY_CHANCE, NEAR, SWITCHED, MISPLACED, RELABELLED, DAMAGED = 310, 60, 312, 25, 30, 60, 350
+SAME, SAME_BY_CHANCE, SAME_LARGE, NEAR, NEAR_LARGE, SWITCHED = 150, 16, 70, 150, 54, 35
+MISPLACED, MISPLACED_LARGE, RELABELLED, RELABELLED_LARGE, DAMAGED = 20, 15, 25, 45, 290
 X = ("x", 1.0)
 
 # "`x4o` and `o4x` file as 02, 01 and eight 00, 02 3F F0 and six 00, 63 zeros, 00 00 00 04 00 00 00 01, 280 zeros."
@@ -109,10 +110,19 @@ def shared_doubles(dice):
         yield f"x{num}/{den}o3o|o3o{n}/{d}x", "apart"
 
 
+def large(dice):
+    """A figure by chance of eight or nine nodes, much alike; few edges keep its texts short."""
+    while True:
+        nodes, edges = figures.by_chance(dice, 8, 9)
+        if len(edges) < 12:
+            return nodes, edges
+
+
 def same(dice):
     """Two texts for one figure: of published diagrams, then of figures by chance, with cycles and lone nodes."""
     drawn = [figures.figure(model.read(text)) for text in some(dice, published(), SAME)]
     drawn += [figures.by_chance(dice, 4, 9) for _ in range(SAME_BY_CHANCE)]
+    drawn += [large(dice) for _ in range(SAME_LARGE)]
     for figure in drawn:
         yield pair(dice, figure, figure), "same"
 
@@ -126,10 +136,10 @@ def pair(dice, left, right):
 
 
 def near(dice):
-    """A published diagram beside itself with one thing changed, each change in turn."""
+    """A published diagram, or a large figure, beside itself with one thing changed, each change in turn."""
     known, found = published(), 0
-    while found < NEAR:
-        figure = figures.figure(model.read(dice.pick(known)))
+    while found < NEAR + NEAR_LARGE:
+        figure = figures.figure(model.read(dice.pick(known))) if found < NEAR else large(dice)
         other = figures.CHANGES[found % len(figures.CHANGES)](dice, *figure)
         if other and filing.record(figure) != filing.record(other):
             found += 1
@@ -162,10 +172,10 @@ def graphs(dice):
 
     found = 0
     while found < SWITCHED:
-        nodes, edges = figures.by_chance(dice, 6, 9)
+        nodes, edges = large(dice)
         figure = [nodes[0]] * len(nodes), [(a, b, (3, 1)) for a, b, _ in edges]
         other = figures.switched(dice, *figure)
-        if other and len(edges) < 14 and filing.record(figure) != filing.record(other):
+        if other and filing.record(figure) != filing.record(other):
             found += 1
             yield pair(dice, figure, other), "apart"
 
@@ -266,7 +276,8 @@ def misplaced(dice):
     """Records but for two exchanged places: well laid out, and not the smallest."""
     listed = [b"x4o", b"x3o", b"s3x", b"xs", b"x3o4o", b"x3x4x", b"x3x5x", b"o3o4o", b"x3xx", b"x3xxx", b"xxx3x", b"o3o3o3o3o",
               b"x3x3x x", b"o3o4o3o", b"x3x3x4x", b"(0)3(-0)", b"x3(1.5)", b"x5/2x5/3x"]
-    for text in listed + [figures.respelled(dice, figures.by_chance(dice, 2, 6)) for _ in range(MISPLACED)]:
+    drawn = [figures.by_chance(dice, 2, 6) for _ in range(MISPLACED)] + [large(dice) for _ in range(MISPLACED_LARGE)]
+    for text in listed + [figures.respelled(dice, figure) for figure in drawn]:
         nodes, edges = filing.read_back(filing.record_of(text))
         for i, j in some(dice, itertools.combinations(range(len(nodes)), 2), 2):
             order = list(range(len(nodes)))
@@ -278,8 +289,8 @@ def misplaced(dice):
 
 def relabelled(dice):
     """Records with another fraction between two nodes: well laid out, and the smallest or not."""
-    for _ in range(RELABELLED):
-        nodes, edges = figures.by_chance(dice, 3, 6)
+    drawn = [figures.by_chance(dice, 3, 6) for _ in range(RELABELLED)] + [large(dice) for _ in range(RELABELLED_LARGE)]
+    for nodes, edges in drawn:
         text = figures.respelled(dice, (nodes, edges)).decode()
         i, j = dice.pick(list(itertools.combinations(range(len(nodes)), 2)))
         at = filing.pair_at(i, j)
