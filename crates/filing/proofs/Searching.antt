@@ -12,13 +12,17 @@ use Rattle.filing.specs.Bytes.{_≼_}
 use Rattle.filing.specs.Diagrams.{Diagram}
 use Rattle.filing.specs.Numberings.{Injects, Numbering, at, plain}
 use Rattle.filing.specs.Records.{layout, IsRecord}
-use Rattle.filing.specs.Searching.{IsNumbering, Extends, Covers, Improves}
 use Rattle.filing.proofs.Bytes.{one-more, length-singles, singles-at}
 use Rattle.filing.proofs.Layouts.{layout-local}
 use Rattle.filing.proofs.Numberings.{Found, find, injects-all}
 use Rattle.filing.proofs.Order.{≼-refl, ≼-trans, ≼-total}
 
 -- ---- numberings as lists
+
+-- the first n places of a list number n nodes
+pub record IsNumbering (n : ℕ) (p : List ℕ) : Type 0 where
+  pub long : n ≤ length p
+  pub valid : Numbering n (at p)
 
 pub length-plain : (n : ℕ) → length (plain n) ≡ n
 unfolding plain
@@ -47,7 +51,7 @@ put-below : (p : List ℕ) (k v i : ℕ) → i < k → at (set p k v) i ≡ at p
 put-below p k v i h = getD-set-other p k i v 0 (omega arith)
 
 -- v is free: none of the first k places has it
-pub put-injects : {n k : ℕ} (p : List ℕ) (v : ℕ) → Injects k n (at p) → k < length p → v < n → ((i : ℕ) → i < k → at p i ≢ v) → Injects (suc k) n (at (set p k v))
+put-injects : {n k : ℕ} (p : List ℕ) (v : ℕ) → Injects k n (at p) → k < length p → v < n → ((i : ℕ) → i < k → at p i ≢ v) → Injects (suc k) n (at (set p k v))
 put-injects {n} {k} p v a hk hv free =
     record { within = one-more _ (λ i h. rw (put-below p k v i h) (a .within i h)) (rw (put-same p k v hk) hv); apart = apart }
   where
@@ -66,8 +70,22 @@ put-injects {n} {k} p v a hk hv free =
 
 -- ---- what a search has seen to
 
+-- q goes on from the first k places of p
+abbrev Extends : ℕ → List ℕ → (ℕ → ℕ) → Type 0
+Extends k p q = (i : ℕ) → i < k → q i ≡ at p i
+
+-- z is at most the key of each numbering that goes on from k places of p
+abbrev Covers : ℕ → ((ℕ → ℕ) → List ℕ) → ℕ → List ℕ → List ℕ → Type 0
+Covers n key k p z = (q : ℕ → ℕ) → Numbering n q → Extends k p q → z ≼ key q
+
+-- from b to r: r is a numbering, no worse than b, and covers what goes on from k places of p
+record Improves (n : ℕ) (key : (ℕ → ℕ) → List ℕ) (k : ℕ) (p b r : List ℕ) : Type 0 where
+  numbering : IsNumbering n r
+  no-worse : key (at r) ≼ key (at b)
+  covers : Covers n key k p (key (at r))
+
 -- the key depends on the n places alone
-abbrev pub Local : ℕ → ((ℕ → ℕ) → List ℕ) → Type 0
+abbrev Local : ℕ → ((ℕ → ℕ) → List ℕ) → Type 0
 Local n key = (p q : ℕ → ℕ) → ((i : ℕ) → i < n → p i ≡ q i) → key p ≡ key q
 
 -- every place is taken: p itself is all that goes on from it
@@ -75,31 +93,31 @@ covers-leaf : {n k : ℕ} {key : (ℕ → ℕ) → List ℕ} → Local n key →
 covers-leaf local e p h q nq x = rw (local q (at p) (λ i l. x i (omega arith))) h
 
 -- z is at most the key of each numbering that goes on from k places of p with a node below v at place k
-abbrev pub Below : ℕ → ((ℕ → ℕ) → List ℕ) → ℕ → List ℕ → ℕ → List ℕ → Type 0
+abbrev Below : ℕ → ((ℕ → ℕ) → List ℕ) → ℕ → List ℕ → ℕ → List ℕ → Type 0
 Below n key k p v z = (q : ℕ → ℕ) → Numbering n q → Extends k p q → q k < v → z ≼ key q
 
 -- from b to c, with the nodes below v tried at place k
-pub record Partly (n : ℕ) (key : (ℕ → ℕ) → List ℕ) (k : ℕ) (p b : List ℕ) (v : ℕ) (c : List ℕ) : Type 0 where
-  pub numbering : IsNumbering n c
-  pub no-worse : key (at c) ≼ key (at b)
-  pub below : Below n key k p v (key (at c))
+record Partly (n : ℕ) (key : (ℕ → ℕ) → List ℕ) (k : ℕ) (p b : List ℕ) (v : ℕ) (c : List ℕ) : Type 0 where
+  numbering : IsNumbering n c
+  no-worse : key (at c) ≼ key (at b)
+  below : Below n key k p v (key (at c))
 
 module _ {n : ℕ} {key : (ℕ → ℕ) → List ℕ} {k : ℕ} {p b : List ℕ} where
-  pub improves-worse : Local n key → k ≡ n → IsNumbering n b → key (at b) ≼ key (at p) → Improves n key k p b b
+  improves-worse : Local n key → k ≡ n → IsNumbering n b → key (at b) ≼ key (at p) → Improves n key k p b b
   improves-worse local e h le = record { numbering = h; no-worse = ≼-refl (key (at b)); covers = covers-leaf local e p le }
 
-  pub improves-better : Local n key → k ≡ n → n ≤ length p → Injects k n (at p) → key (at p) ≼ key (at b) → Improves n key k p b p
+  improves-better : Local n key → k ≡ n → n ≤ length p → Injects k n (at p) → key (at p) ≼ key (at b) → Improves n key k p b p
   improves-better local e l a ge = record {
     numbering = record { long = l; valid = injects-all e a };
     no-worse = ge;
     covers = covers-leaf local e p (≼-refl (key (at p)));
   }
 
-  pub partly-start : IsNumbering n b → Partly n key k p b zero b
+  partly-start : IsNumbering n b → Partly n key k p b zero b
   partly-start h = record { numbering = h; no-worse = ≼-refl (key (at b)); below = λ q nq x l. absurd (not-suc-le-zero l) }
 
   -- an earlier place has v
-  pub partly-used : {v : ℕ} {c : List ℕ} → k < n → Found k (at p) v → Partly n key k p b v c → Partly n key k p b (suc v) c
+  partly-used : {v : ℕ} {c : List ℕ} → k < n → Found k (at p) v → Partly n key k p b v c → Partly n key k p b (suc v) c
   partly-used {v} {c} hk (i, hi, e) y = record { numbering = y .numbering; no-worse = y .no-worse; below = below }
     where
       below : Below n key k p (suc v) (key (at c))
@@ -107,18 +125,18 @@ module _ {n : ℕ} {key : (ℕ → ℕ) → List ℕ} {k : ℕ} {p b : List ℕ}
           (λ s. let w : i ≡ k = nq .apart i k (omega arith) hk (x i hi ∙ e ∙ sym s) in let z : ⊥ = omega arith in absurd z) (q k) l refl
 
   -- all that goes on with v at place k was searched, from c to r
-  pub partly-free : {v : ℕ} {c r : List ℕ} → k < length p → Improves n key (suc k) (set p k v) c r → Partly n key k p b v c → Partly n key k p b (suc v) r
+  partly-free : {v : ℕ} {c r : List ℕ} → k < length p → Improves n key (suc k) (set p k v) c r → Partly n key k p b v c → Partly n key k p b (suc v) r
   partly-free {v} {c} {r} hk i y = record { numbering = i .numbering; no-worse = ≼-trans (i .no-worse) (y .no-worse); below = below }
     where
       below : Below n key k p (suc v) (key (at r))
       below q nq x l = one-more (λ u. q k ≡ u → key (at r) ≼ key q) (λ u m s. ≼-trans (i .no-worse) (y .below q nq x (rw s m)))
           (λ s. i .covers q nq (one-more _ (λ j h. x j h ∙ sym (put-below p k v j h)) (s ∙ sym (put-same p k v hk)))) (q k) l refl
 
-  pub partly-done : {v : ℕ} {r : List ℕ} → k < n → n ≤ v → Partly n key k p b v r → Improves n key k p b r
+  partly-done : {v : ℕ} {r : List ℕ} → k < n → n ≤ v → Partly n key k p b v r → Improves n key k p b r
   partly-done hk hv y = record { numbering = y .numbering; no-worse = y .no-worse; covers = λ q nq x. y .below q nq x (le-trans (nq .within k hk) hv) }
 
 -- what a search from nothing has found is the record
-pub improves-record : {N : ℕ} {d : Diagram} {p b r : List ℕ} → Improves (d .size) (layout N d) zero p b r → IsRecord N d (layout N d (at r))
+improves-record : {N : ℕ} {d : Diagram} {p b r : List ℕ} → Improves (d .size) (layout N d) zero p b r → IsRecord N d (layout N d (at r))
 improves-record i = record { numbering = _; valid = i .numbering .valid; laid = refl; least = λ q nq. i .covers q nq (λ j h. absurd (not-suc-le-zero h)) }
 
 -- ---- the search

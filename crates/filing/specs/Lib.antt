@@ -6,4 +6,3 @@ pub mod Diagrams
 pub mod Records
 pub mod Readable
 pub mod Groups
-pub mod Searching

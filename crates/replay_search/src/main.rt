@@ -11,11 +11,9 @@ fn count(text: &[u8]) -> u64 {
         Answer::Accepted => {
             let cd = r.cd;
             let t = tables::of(cd);
-            let kinds = t.kinds;
-            let bits = t.bits;
-            let pairs = t.pairs;
-            let f = search::smallest(&kinds, &bits, &pairs, t.count);
-            f.count
+            let n = t.count;
+            let found = search::smallest(&t.kinds, &t.bits, &t.pairs, n);
+            found.count
         }
         Answer::Refused(_) => 0,
     }

@@ -1,4 +1,4 @@
--- Document 02, ticket K3: what the search is asked and what it finds. N is the limit of nodes. Public promises lean on `Smallest` alone.
+-- Document 02, ticket K3: what the search is asked and what it finds. N is the limit of nodes. No public promise leans on this file.
 use mathlib.Core.Bool.{Bool, true, false}
 use mathlib.Core.List.{List}
 use mathlib.Core.Path.{_≡_}

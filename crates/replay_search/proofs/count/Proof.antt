@@ -20,7 +20,7 @@ of-requires c κs =
 
 smallest-requires : tie.Need-smallest-requires
 smallest-requires c κs =
-    let o = c .before .before .before .before .before .before in
+    let o = c .before .before .before .before in
     (omega (arith, o .of .ensures .0, read-few _ _ (o .before .before .before .before .parse .ensures)), o .of .ensures .1)
 
 pub count-spec : {M : Type 1} → statement M
