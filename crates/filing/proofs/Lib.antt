@@ -9,3 +9,4 @@ pub mod Filing
 pub mod Searching
 pub mod Readback
 pub mod Groups
+pub mod Sequences

@@ -6,3 +6,4 @@ pub mod Diagrams
 pub mod Records
 pub mod Readable
 pub mod Groups
+pub mod Sequences

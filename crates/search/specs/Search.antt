@@ -1,6 +1,7 @@
 -- Document 02, ticket K3: what the search is asked and what it finds. N is the limit of nodes. No public promise leans on this file.
 use mathlib.Core.Bool.{Bool, true, false}
 use mathlib.Core.List.{List}
+use mathlib.Core.Logic.{_⊎_}
 use mathlib.Core.Path.{_≡_}
 use Prim.Native.Nat.{ℕ, _-_, _*_, _≤_, _<_}
 use lib.ListN.{length, drop}
@@ -9,10 +10,10 @@ use Rattle.filing.specs.Groups.{groupFactorials}
 use Rattle.filing.specs.Numberings.{Numbering, at, plain}
 use Rattle.tables.specs.Tables.{tableLayout, nodeAt}
 use Rattle.tables.specs.declared.Tables.{Tables}
-use Rattle.search.specs.Blocks.{base, block, Keyed}
-use Rattle.search.specs.Groups.{Grouped, Within, ways}
-use Rattle.search.specs.Order.{Agree, Before, AtMost, Side}
-use Rattle.search.specs.Ranks.{table}
+use Rattle.blocks.specs.Blocks.{base, block, Keyed}
+use Rattle.groups.specs.Groups.{Grouped, Within, ways}
+use Rattle.filing.specs.Sequences.{Agree, Before, AtMost, Side}
+use Rattle.blocks.specs.Ranks.{table}
 
 -- r numbers the nodes, no numbering lays out less, and past the nodes it is the plain one
 pub record Smallest (N : ℕ) (t : Tables) (r : List ℕ) : Type 0 where
@@ -51,6 +52,12 @@ pub record Ready (N n j s : ℕ) (r ends p keys b tops : List ℕ) : Type 0 wher
   pub begun : Begun N n j r ends p keys
   pub best : Best N n r ends p b tops
   pub side : Side j (block (table N r) (at p)) (block (table N r) (at b)) s
+
+-- r is the side of what ends with x to what ends with y, s being the side before them
+pub record SideAfter (s x y r : ℕ) : Type 0 where
+  pub low : r < 2
+  pub before : r ≡ 0 → (s ≡ 0) ⊎ (x < y)
+  pub same : r ≡ 1 → (s ≡ 1) × (x ≡ y)
 
 -- from b to the best of it and of all that go on from the first j places of p; count numberings were carried to the end
 pub record Improves (e : ℕ → ℕ → ℕ) (ends : List ℕ) (n j : ℕ) (p b best : ℕ → ℕ) (count : ℕ) : Type 0 where

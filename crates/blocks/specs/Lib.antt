@@ -1,0 +1,3 @@
+-- What ranks and blocks of pairs promise.
+pub mod Ranks
+pub mod Blocks

@@ -1,0 +1,2 @@
+-- What sorting and grouping the nodes promise.
+pub mod Groups
