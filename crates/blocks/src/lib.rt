@@ -103,19 +103,17 @@ fn rank_row(
 }
 
 // Of the pairs of n nodes the ranks among their numbers.
-pub fn ranks(e: &[u64; SQUARE], n: usize) -> [u64; SQUARE]
-    requires { ⌜ n ≤ limit ⌝ }
-    ensures { λ r. ⌜ ((u v : ℕ) → table limit r u v < base) × Ranked n (table limit (now (e .entry))) (table limit r) ⌝ }
+pub fn ranks(e: &[u64; SQUARE], n: usize, out: &mut [u64; SQUARE])
+    requires { ⌜ (n ≤ limit) × (now out ≡ replicate (limit * limit) 0) ⌝ }
+    ensures { λ _. ⌜ ((u v : ℕ) → table limit (now (out .exit)) u v < base) × Ranked n (table limit (now (e .entry))) (table limit (now (out .exit))) ⌝ }
 {
     let mut list = blank();
     let m = list_all(e, n, &mut list);
-    let mut out = blank();
     let mut u = 0;
     while u < n {
-        rank_row(e, n, u, &list, m, &mut out);
+        rank_row(e, n, u, &list, m, out);
         u += 1;
     }
-    out
 }
 
 // The blocks that nodes have at place j + 1, from those at place j.
