@@ -132,7 +132,8 @@ impl Cd {
     /// The figure's filing record. Two texts have the same record exactly when they draw the same
     /// figure, whichever way they number its nodes and write its fractions; loops play no part.
     ///
-    /// The time grows with the numberings to be tried: about 0.1 s for nine nodes, 0.1 ms for six.
+    /// The more nodes are alike, the longer it takes: nine different ones about 1 µs, nine alike in a
+    /// chain about 25 µs, nine alike that nothing joins about 7 ms.
     ///
     /// ```
     /// use lexicon::Cd;

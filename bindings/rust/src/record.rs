@@ -45,8 +45,8 @@ impl Record {
     /// How many bytes a record has.
     pub const LEN: usize = RECORD;
 
-    /// Takes the bytes of a record, in the time of [`Cd::record`](crate::Cd::record), since they must
-    /// be the smallest that any numbering gives.
+    /// Takes the bytes of a record, in about the time of [`Cd::record`](crate::Cd::record), since they
+    /// must be the smallest that any numbering gives.
     ///
     /// # Errors
     ///
@@ -69,7 +69,7 @@ impl Record {
     }
 
     /// Takes bytes unchecked, for a program that loads records which this library wrote: it copies
-    /// them, where [`Record::from_bytes`] would try every numbering.
+    /// them, where [`Record::from_bytes`] would look for a numbering that gives smaller ones.
     ///
     /// Given other bytes, it returns a key of no figure, of another figure, or a second key of one,
     /// and [`Record::diagram`] panics unless a diagram has them.

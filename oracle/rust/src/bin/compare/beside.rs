@@ -188,9 +188,9 @@ impl Beside<'_> {
         self.port.check(Call::Reflections(text), want, turned(window, 4))
     }
 
-    /// Of a share of the texts also the record: the port tries all numberings.
+    /// Of a share of the texts also the record: many alike nodes take the model of this program long.
     fn record(&mut self, text: &[u8], cd: &Cd, window: usize, tally: &mut Tally) -> Result<(), String> {
-        const ONE_IN: [usize; LIMIT + 1] = [1, 1, 1, 1, 1, 2, 8, 1 << 7, 1 << 11, 1 << 15];
+        const ONE_IN: [usize; LIMIT + 1] = [1, 1, 1, 1, 1, 1, 1, 2, 16, 128];
         let window = turned(window, 6);
         if window >> 20 & (ONE_IN[cd.node_count()] - 1) != 0 {
             return Ok(());

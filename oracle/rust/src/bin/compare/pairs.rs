@@ -94,13 +94,13 @@ fn any_figure(dice: &mut Dice) -> Figure {
     }
 }
 
-/// The port tries all numberings: nine nodes take as long as a thousand times six.
+/// Few of nine nodes: where they are alike, the model of this program takes as long for one as for a thousand of six.
 fn count(dice: &mut Dice) -> usize {
-    match dice.below(1 << 16) {
+    match dice.below(1 << 10) {
         0 => 9,
         1..=8 => 8,
-        9..=150 => 7,
-        151..=6000 => 6,
+        9..=72 => 7,
+        73..=250 => 6,
         _ => dice.pick(&[0, 1, 1, 2, 2, 2, 3, 3, 3, 3, 4, 4, 4, 4, 4, 5, 5, 5, 5]),
     }
 }
