@@ -17,6 +17,8 @@ backticks right after "path: " are declared there, after "crate: " in that crate
 "crate, crate: `label`, `label_*`" or "crate: all", or words without backticks; parentheses hold remarks. Any other word that stands alone in backticks
 occurs in the sources or in their paths.
 
+Edits. The line that a must-fail edit replaces stands once in its file.
+
 Quotations. What stands between `"` in a comment of specs/ are words of one paragraph of document 01, or of document 02 if the comment or the file's
 first comment names that document or a ticket. `..` stands for words left out. Emphasis and line breaks do not count.
 
@@ -435,6 +437,16 @@ def check_edits(where, text):
                     fault(where, f"{crate}/must-fail/{label}.edit does not exist")
 
 
+def check_edited_lines():
+    for edit in sorted(CRATES.glob("*/must-fail/*.edit")):
+        lines = []
+        for line in read(edit).splitlines():
+            if line.startswith("file: "):
+                lines = text_of(f"{edit.parent.parent.name}/{line[6:]}").splitlines()
+            elif line.startswith("old: ") and lines.count(line[5:]) != 1:
+                fault(edit.relative_to(TOP), f"its file has not once the line: {line[5:]}")
+
+
 def check_names(where, text):
     """Paths, and names in backticks."""
     for path, names in cited(text):
@@ -525,6 +537,7 @@ def main():
     check_lists(public, programs)
     check_citations("docs/CLAIMS.md")
     check_citations("docs/DECISIONS.md")
+    check_edited_lines()
     check_quotations()
     if faults:
         print("\n".join(faults))

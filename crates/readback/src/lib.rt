@@ -231,7 +231,8 @@ pub fn read(s: &[u8]) -> Read
     if !laid {
         return parse::refused(CdError::NoDiagram);
     }
-    if !search::is_smallest(&t.kinds, &t.bits, &t.pairs, n) {
+    let smallest = search::is_smallest(&t.kinds, &t.bits, &t.pairs, n);
+    if !smallest {
         return parse::refused(CdError::NoDiagram);
     }
     Read {
