@@ -14,7 +14,7 @@ use Rattle.filing.specs.Records.{nodesLength, pairsLength, nodeBytes, pa
 use Rattle.filing.proofs.Bytes.{bytes-injective, append-injective, blocks-injective, filled-injective}
 use Rattle.filing.proofs.Gcd.{lowest-same}
 use Rattle.filing.proofs.Layouts.{lowest-edge, length-nodesOf, length-rowOf, length-pairsOf, length-nodes-part, layouts-equal}
-use Rattle.filing.proofs.Numberings.{identity, compose, differ, inverse, inverse-right, inverse-numbering}
+use Rattle.filing.proofs.Numberings.{identity, compose, differ, inverse, inverse-right, inverse-left, inverse-numbering}
 use Rattle.filing.proofs.Order.{≼-antisym}
 
 -- ---- a layout shows everything but the numbering
@@ -148,6 +148,11 @@ module _ {N : ℕ} {d e : Diagram} (wd : IsDiagram N d) (we : IsDiagram N e) {p 
           subst₂ (λ x y. SameFraction (d .edge x y) (e .edge (q (back i)) (q (back j)))) (inverse-right np i h) (inverse-right np j k)
           (agree-edges (back i) (back j) (nb .within i h) (nb .within j k) (differ nb h k ne))
 
+-- under numberings that lay out the same bytes, what has one place corresponds
+pub places-correspond : (N : ℕ) {d e : Diagram} → IsDiagram N d → IsDiagram N e → {p q : ℕ → ℕ} → Numbering (d .size) p → Numbering (e .size) q → layout N d p ≡ layout N e q
+    → (f : ℕ → ℕ) × Carries d e f × ((i : ℕ) → i < d .size → f (p i) ≡ q i)
+places-correspond N wd we {p} {q} np nq l = (_, agree-carries wd we np nq (layout-shows N wd we np nq l), λ i h. ap q (inverse-left np i h))
+
 module _ {N : ℕ} {d e : Diagram} (wd : IsDiagram N d) (we : IsDiagram N e) where
   pub iso-sym : Iso d e → Iso e d
   iso-sym (f, c) =
@@ -164,7 +169,7 @@ module _ {N : ℕ} {d e : Diagram} (wd : IsDiagram N d) (we : IsDiagram N e) whe
 -- THE FILING THEOREM
 module _ (N : ℕ) {d e : Diagram} (wd : IsDiagram N d) (we : IsDiagram N e) {a b : List ℕ} (ra : IsRecord N d a) (rb : IsRecord N e b) where
   pub no-false-match : a ≡ b → Iso d e
-  no-false-match s = (_, agree-carries wd we (ra .valid) (rb .valid) (layout-shows N wd we (ra .valid) (rb .valid) (sym (ra .laid) ∙ s ∙ rb .laid)))
+  no-false-match s = let (f, c, to) = places-correspond N wd we (ra .valid) (rb .valid) (sym (ra .laid) ∙ s ∙ rb .laid) in (f, c)
 
   pub no-missed-match : Iso d e → a ≡ b
   no-missed-match i = ≼-antisym (no-greater we wd (iso-sym wd we i) rb ra) (no-greater wd we i ra rb)

@@ -7,6 +7,7 @@ pub mod Layouts
 pub mod Places
 pub mod Filing
 pub mod Searching
+pub mod First
 pub mod Readback
 pub mod Groups
 pub mod Sequences

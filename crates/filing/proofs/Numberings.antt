@@ -21,6 +21,12 @@ compose {n} {f} {g} a b = record {
 pub differ : {n m : ℕ} {f : ℕ → ℕ} → Injects n m f → {i j : ℕ} → i < n → j < n → i ≢ j → f i ≢ f j
 differ a {i} {j} h k ne e = ne (a .apart i j h k e)
 
+pub numbering-same : {n : ℕ} {f g : ℕ → ℕ} → ((i : ℕ) → i < n → f i ≡ g i) → Numbering n g → Numbering n f
+numbering-same e a = record {
+  within = λ i h. rw (e i h) (a .within i h);
+  apart = λ i j h k x. a .apart i j h k (sym (e i h) ∙ x ∙ e j k);
+}
+
 pub injects-all : {k n m : ℕ} {f : ℕ → ℕ} → k ≡ n → Injects k m f → Injects n m f
 injects-all e a = rw e at a
 
@@ -111,6 +117,9 @@ module _ {n : ℕ} {f : ℕ → ℕ} (a : Numbering n f) where
 
   pub inverse-right : (v : ℕ) → v < n → f (inverse n f v) ≡ v
   inverse-right v h = inverse-found v h .1
+
+  pub inverse-left : (i : ℕ) → i < n → inverse n f (f i) ≡ i
+  inverse-left i h = let v = a .within i h in a .apart (inverse n f (f i)) i (inverse-found (f i) v .0) h (inverse-right (f i) v)
 
   pub inverse-numbering : Numbering n (inverse n f)
   inverse-numbering = record {

@@ -5,9 +5,10 @@ use mathlib.Core.Logic.{_⊎_, inl, inr}
 use mathlib.Core.Path.{_≡_, refl, ap₂, _∙_}
 use Prim.Native.Nat.{ℕ, zero, suc, _+_, _*_, _/_, _%_, _^_, _<_}
 use native.Mathlib.Decide.{decLt}
-use native.Mathlib.Nat.{zero-lt-suc, lt-trans, lt-of-lt-of-le, lt-of-le-of-lt, le-of-eq, mod-one, mod-lt, mod-eq-of-lt, mul-le-mul-right, pow-succ', one-le-pow}
+use native.Mathlib.Nat.{zero-lt-suc, suc-inj, suc-ne-zero, lt-irrefl, lt-trans, lt-of-lt-of-le, lt-of-le-of-lt, le-of-eq, mod-one, mod-lt, mod-eq-of-lt, mul-le-mul-right, pow-succ', one-le-pow}
 use native.Mathlib.Omega.{arith}
 use lib.Arith.{mod-mul}
+use lib.ListN.{length}
 use Rattle.filing.specs.Bytes.{bytes, _≼_, ends, less, same}
 
 pub ≼-refl : (xs : List ℕ) → xs ≼ xs
@@ -42,6 +43,17 @@ unfoldable pub ≼-total : (xs ys : List ℕ) → (xs ≼ ys) ⊎ (ys ≼ xs)
 pub ≼-after : (a : List ℕ) {xs ys : List ℕ} → xs ≼ ys → (a ++ xs) ≼ (a ++ ys)
 ≼-after [] h = h
 ≼-after (x ∷ a) h = same refl (≼-after a h)
+
+pub ≼-before : (a : List ℕ) {xs ys : List ℕ} → (a ++ xs) ≼ (a ++ ys) → xs ≼ ys
+≼-before [] h = h
+≼-before (x ∷ a) (less h) = absurd (lt-irrefl x h)
+≼-before (x ∷ a) (same e h) = ≼-before a h
+
+pub ≼-front : (a b xs ys : List ℕ) → length a ≡ length b → (a ++ xs) ≼ (b ++ ys) → a ≼ b
+≼-front [] b xs ys l h = ends
+≼-front (x ∷ a) [] xs ys l h = absurd (suc-ne-zero (length a) l)
+≼-front (x ∷ a) (y ∷ b) xs ys l (less h) = less h
+≼-front (x ∷ a) (y ∷ b) xs ys l (same e h) = same e (≼-front a b xs ys (suc-inj l) h)
 
 -- ---- numbers
 

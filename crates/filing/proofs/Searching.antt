@@ -1,5 +1,5 @@
 -- A search depth first, place by place: what goes on from k places has at place k a node that no earlier place has, so the best of those nodes' searches is
--- the best of all. It finds a smallest layout, so every diagram has a record. Assumes nothing.
+-- the best of all. It finds a numbering with the smallest key; with layouts for keys, so every diagram has a record. Assumes nothing.
 use mathlib.Core.List.{List}
 use mathlib.Core.Logic.{_≢_, _⊎_, inl, inr}
 use mathlib.Core.Path.{_≡_, refl, sym, _∙_}
@@ -135,10 +135,6 @@ module _ {n : ℕ} {key : (ℕ → ℕ) → List ℕ} {k : ℕ} {p b : List ℕ}
   partly-done : {v : ℕ} {r : List ℕ} → k < n → n ≤ v → Partly n key k p b v r → Improves n key k p b r
   partly-done hk hv y = record { numbering = y .numbering; no-worse = y .no-worse; covers = λ q nq x. y .below q nq x (le-trans (nq .within k hk) hv) }
 
--- what a search from nothing has found is the record
-improves-record : {N : ℕ} {d : Diagram} {p b r : List ℕ} → Improves (d .size) (layout N d) zero p b r → IsRecord N d (layout N d (at r))
-improves-record i = record { numbering = _; valid = i .numbering .valid; laid = refl; least = λ q nq. i .covers q nq (λ j h. absurd (not-suc-le-zero h)) }
-
 -- ---- the search
 
 -- from any best so far, one that covers what goes on with v at place k of p, for each v that is free
@@ -167,11 +163,16 @@ module _ {n : ℕ} {key : (ℕ → ℕ) → List ℕ} where
       let (r, y) = tried k p b (omega arith) (omega arith) h deeper n (le-refl n) in
       (r, partly-done (omega arith) (le-refl n) y)
 
+-- of all numberings one whose key is the smallest
+pub smallest-key : (n : ℕ) (key : (ℕ → ℕ) → List ℕ) → Local n key → (r : List ℕ) × Numbering n (at r) × ((q : ℕ → ℕ) → Numbering n q → key (at r) ≼ key q)
+smallest-key n key local =
+    let first : IsNumbering n (plain n) = plain-front (le-refl n) in
+    let none : Injects zero n (at (plain n)) = record { within = λ i h. absurd (not-suc-le-zero h); apart = λ i j h. absurd (not-suc-le-zero h) } in
+    let (r, i) = searched local n zero (plain n) (plain n) (add-zero n) (first .long) none first in
+    (r, i .numbering .valid, λ q nq. i .covers q nq (λ j h. absurd (not-suc-le-zero h)))
+
 -- EVERY DIAGRAM HAS A RECORD
 pub record-exists : (N : ℕ) (d : Diagram) → (bs : List ℕ) × IsRecord N d bs
 record-exists N d =
-    let n : ℕ = d .size in
-    let first : IsNumbering n (plain n) = plain-front (le-refl n) in
-    let none : Injects zero n (at (plain n)) = record { within = λ i h. absurd (not-suc-le-zero h); apart = λ i j h. absurd (not-suc-le-zero h) } in
-    let (r, i) = searched {key = layout N d} (layout-local N d) n zero (plain n) (plain n) (add-zero n) (first .long) none first in
-    (layout N d (at r), improves-record i)
+    let (r, valid, least) = smallest-key (d .size) (layout N d) (layout-local N d) in
+    (layout N d (at r), record { numbering = at r; valid = valid; laid = refl; least = least })

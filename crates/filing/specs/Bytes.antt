@@ -23,7 +23,7 @@ blocks g (suc n) = blocks g n ++ g n
 unfoldable pub filled : ℕ → List ℕ → List ℕ
 filled w l = l ++ replicate (w - length l) 0
 
--- "byte order (the first differing byte decides)": no greater than
+-- "byte order (the first differing byte decides)": no greater than. Any lists of numbers are compared so.
 infix 50 _≼_
 pub data _≼_ : List ℕ → List ℕ → Type 0 where
   ends : {ys : List ℕ} → [] ≼ ys

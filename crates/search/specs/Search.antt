@@ -1,4 +1,4 @@
--- Document 02, ticket K3: what the search is asked and what it finds. N is the limit of nodes. No public promise leans on this file.
+-- Document 02, tickets K3 and K9: what the search is asked and what it finds. N is the limit of nodes. No public promise leans on this file.
 use mathlib.Core.Bool.{Bool, true, false}
 use mathlib.Core.List.{List}
 use mathlib.Core.Logic.{_⊎_}
@@ -20,6 +20,11 @@ pub record Smallest (N : ℕ) (t : Tables) (r : List ℕ) : Type 0 where
   pub numbering : Numbering (t .count) (at r)
   pub least : (q : ℕ → ℕ) → Numbering (t .count) q → tableLayout N (t .count) (t .kinds) (t .bits) (t .pairs) (at r) ≼ tableLayout N (t .count) (t .kinds) (t .bits) (t .pairs) q
   pub spare : drop (t .count) r ≡ drop (t .count) (plain N)
+
+-- ticket K9: "Of all numberings that give the record, return the first, comparing the list of old nodes in new order as numbers from the left."
+abbrev pub Foremost : ℕ → Tables → List ℕ → Type 0
+Foremost N t r = (q : ℕ → ℕ) → Numbering (t .count) q → tableLayout N (t .count) (t .kinds) (t .bits) (t .pairs) q ≡ tableLayout N (t .count) (t .kinds) (t .bits) (t .pairs) (at r)
+    → AtMost (t .count) (at r) q
 
 -- "It is proved to lie between 1 and the product of the groups' factorials"
 pub record Counted (t : Tables) (count : ℕ) : Type 0 where
@@ -59,10 +64,14 @@ pub record SideAfter (s x y r : ℕ) : Type 0 where
   pub before : r ≡ 0 → (s ≡ 0) ⊎ (x < y)
   pub same : r ≡ 1 → (s ≡ 1) × (x ≡ y)
 
+-- p comes no later than q: by blocks, and where these agree by the nodes themselves
+abbrev pub NoLater : (ℕ → ℕ → ℕ) → ℕ → (ℕ → ℕ) → (ℕ → ℕ) → Type 0
+NoLater e n p q = Before n (block e p) (block e q) ⊎ (Agree n (block e p) (block e q) × AtMost n p q)
+
 -- from b to the best of it and of all that go on from the first j places of p; count numberings were carried to the end
 pub record Improves (e : ℕ → ℕ → ℕ) (ends : List ℕ) (n j : ℕ) (p b best : ℕ → ℕ) (count : ℕ) : Type 0 where
-  pub no-worse : AtMost n (block e best) (block e b)
-  pub covers : (q : ℕ → ℕ) → Within n ends j p q → AtMost n (block e best) (block e q)
+  pub no-worse : NoLater e n best b
+  pub covers : (q : ℕ → ℕ) → Within n ends j p q → NoLater e n best q
   pub prefix : Agree j (block e best) (block e p)
   pub most : count ≤ ways ends p j (n - j)
   pub some : Agree n (block e b) (block e p) → 1 ≤ count

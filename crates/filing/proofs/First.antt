@@ -1,0 +1,80 @@
+-- There is exactly one first numbering that gives a record. One, since no two lists are each no greater than the other; and one there is: with the list of nodes
+-- laid behind the layout, the smallest of all numberings has the record in front, and of those that have it the first list behind. Assumes nothing.
+use mathlib.Core.List.{List, [], _∷_, _++_}
+use mathlib.Core.Logic.{inl, inr}
+use mathlib.Core.Path.{_≡_, refl, sym, ap₂, _∙_, subst, subst₂}
+use Prim.Native.Nat.{ℕ, zero, suc, _≤_, _<_}
+use native.Mathlib.Nat.{suc-inj, suc-ne-zero, zero-lt-suc, not-suc-le-zero}
+use native.Mathlib.Omega.{arith}
+use lib.ListN.{length}
+use lib.Seq.{ext-getD}
+use Rattle.filing.specs.Bytes.{blocks, _≼_, ends, less, same}
+use Rattle.filing.specs.Diagrams.{Diagram}
+use Rattle.filing.specs.First.{Gives, First}
+use Rattle.filing.specs.Numberings.{Numbering, at}
+use Rattle.filing.specs.Records.{layout, IsRecord}
+use Rattle.filing.specs.Sequences.{Agree, Before, AtMost}
+use Rattle.filing.proofs.Bytes.{blocks-same, length-singles, singles-at}
+use Rattle.filing.proofs.Layouts.{layout-local, length-layout}
+use Rattle.filing.proofs.Numberings.{numbering-same}
+use Rattle.filing.proofs.Order.{≼-antisym, ≼-before, ≼-front}
+use Rattle.filing.proofs.Searching.{smallest-key}
+
+-- ---- one at most
+
+pub first-unique : {N : ℕ} {d : Diagram} {bs old old′ : List ℕ} → First N d bs old → First N d bs old′ → old ≡ old′
+first-unique a b = ≼-antisym (a .least _ (b .gives)) (b .least _ (a .gives))
+
+-- ---- one at least
+
+-- a numbering of n nodes as a list
+abbrev listed : ℕ → (ℕ → ℕ) → List ℕ
+listed n q = blocks (λ i. q i ∷ []) n
+
+listed-at : (n : ℕ) (l : List ℕ) → length l ≡ n → listed n (at l) ≡ l
+listed-at n l e = ext-getD 0 (listed n (at l)) l (length-singles (at l) n ∙ sym e) (λ i h. singles-at (at l) n 0 i (rw (length-singles (at l) n) at h))
+
+module _ (N : ℕ) (d : Diagram) (few : d .size ≤ N) {bs : List ℕ} (ra : IsRecord N d bs) where
+  abbrev n : ℕ
+  n = d .size
+
+  abbrev key : (ℕ → ℕ) → List ℕ
+  key q = layout N d q ++ listed n q
+
+  key-local : (p q : ℕ → ℕ) → ((i : ℕ) → i < n → p i ≡ q i) → key p ≡ key q
+  key-local p q e = ap₂ _++_ (layout-local N d p q e) (blocks-same _ _ n (λ i h. let x = e i h in cc))
+
+  pub first-exists : (old : List ℕ) × First N d bs old
+  first-exists =
+      let (r, valid, least) = smallest-key n key key-local in
+      let same-nodes : Agree n (at (listed n (at r))) (at r) = λ i h. singles-at (at r) n 0 i h in
+      let front : layout N d (at r) ≼ layout N d (ra .numbering) =
+          ≼-front (layout N d (at r)) (layout N d (ra .numbering)) (listed n (at r)) (listed n (ra .numbering)) (length-layout N d few (at r) ∙ sym (length-layout N d few (ra .numbering))) (least (ra .numbering) (ra .valid)) in
+      let laid : bs ≡ layout N d (at r) = ≼-antisym (ra .least (at r) valid) (subst (λ z. layout N d (at r) ≼ z) (sym (ra .laid)) front) in
+      let gives : Gives N d bs (listed n (at r)) = record {
+        long = length-singles (at r) n;
+        valid = numbering-same same-nodes valid;
+        laid = laid ∙ sym (layout-local N d (at (listed n (at r))) (at r) same-nodes);
+      } in
+      (listed n (at r), record {
+        gives = gives;
+        least = λ other g. ≼-before (layout N d (at r))
+            (subst₂ (λ z l. (layout N d (at r) ++ listed n (at r)) ≼ (z ++ l)) (sym (g .laid) ∙ laid) (listed-at n other (g .long)) (least (at other) (g .valid)));
+      })
+
+-- ---- lists as sequences
+
+pub at-most-list : (xs ys : List ℕ) → length xs ≡ length ys → AtMost (length xs) (at xs) (at ys) → xs ≼ ys
+at-most-list [] ys l a = ends
+at-most-list (x ∷ xs) [] l a = absurd (suc-ne-zero (length xs) l)
+at-most-list (x ∷ xs) (y ∷ ys) l a = go a (at-most-list xs ys (suc-inj l))
+  where
+    first-differ : (AtMost (length xs) (at xs) (at ys) → xs ≼ ys) → (k : ℕ) → k < suc (length xs) → Agree k (at (x ∷ xs)) (at (y ∷ ys))
+        → at (x ∷ xs) k < at (y ∷ ys) k → (x ∷ xs) ≼ (y ∷ ys)
+    first-differ rest zero low agree h = less h
+    first-differ rest (suc k) low agree h =
+        same (agree zero (zero-lt-suc k)) (rest (inl record { place = k; low = omega arith; agree = λ i m. agree (suc i) (omega arith); less = h }))
+
+    go : AtMost (suc (length xs)) (at (x ∷ xs)) (at (y ∷ ys)) → (AtMost (length xs) (at xs) (at ys) → xs ≼ ys) → (x ∷ xs) ≼ (y ∷ ys)
+    go (inl b) rest = first-differ rest (b .place) (b .low) (b .agree) (b .less)
+    go (inr a) rest = same (a zero (zero-lt-suc (length xs))) (rest (inr (λ i h. a (suc i) (omega arith))))
