@@ -2,6 +2,7 @@ pub mod Answers
 mod SoundNodes
 mod Sound
 pub mod Fileable
+pub mod OneAnswer
 pub mod Demand3
 pub mod Marks
 mod FewNodes

@@ -20,7 +20,7 @@ use Rattle.lexicon.specs.declared.Filed.{Filed}
 abbrev pub refusal : CdError → Filed
 refusal e = record { answer = said.Refused e; numbering = plain limit; count = 0 }
 
--- of a text and a buffer before and after the call, the answers that the call may give: only the numbering is free, and it must give the record
+-- of a text and a buffer before and after the call, the answer that the call gives: there is only one (proofs/OneAnswer.antt)
 pub data Files (text out out′ : List ℕ) (r : Filed) : Type 0 where
   refused : {e : CdError} → read text ≡ Refused e → r ≡ refusal e → out′ ≡ out → Files text out out′ r
   short : {ns : List Node} {es : List Stored} → read text ≡ Accepted ns es → length out < recordLength limit → r ≡ refusal ShortBuffer → out′ ≡ out → Files text out out′ r

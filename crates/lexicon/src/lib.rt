@@ -35,7 +35,7 @@ pub fn read(text: &[u8]) -> Reading
     }
 }
 
-// That a record was written, or what refuses it; and the numbering that gives the record: for each of the first `count` places its old node.
+// That a record was written, or what refuses it; and the first numbering that gives the record: for each of the first `count` places its old node.
 pub struct Filed {
     pub answer: Answer,
     pub numbering: [usize; LIMIT],

@@ -1,8 +1,9 @@
 -- Demand 3 of the calls for C: two calls of `lexicon_write_record` that return 0 have written the same 370 bytes exactly when some renumbering carries one text's
--- diagram onto the other's. It rests on the promise `FilesForC` alone. Assumes nothing.
+-- diagram onto the other's; with ticket K9, their numberings tell such a renumbering, and one text and one buffer have one answer. It rests on the promise
+-- `FilesForC` alone. Assumes nothing.
 use mathlib.Core.List.{List, [], _∷_}
 use mathlib.Core.Logic.{_↔_}
-use mathlib.Core.Path.{_≡_, ap, _∙_}
+use mathlib.Core.Path.{_≡_, sym, ap, _∙_, subst₂}
 use Prim.Native.Nat.{ℕ, _≤_, _<_}
 use native.Mathlib.Omega.{arith}
 use lib.ListN.{length, getD, take}
@@ -12,18 +13,20 @@ use Rattle.cd.specs.Refusals.{numberOf}
 use Rattle.cd.specs.declared.CdError.{CdError}
 use Rattle.cd.specs.declared.CdError.the-variants.{TooLong, NotAscii, MismatchedParenthesis, UnexpectedEnding, ParseError, InvalidSymbol, InvalidEdge, RepeatEdge, OutOfRange, TooManyNodes, MissingNode, ShortBuffer, RecordLength, NoDiagram, Crowded, Infinite, NoFamily}
 use Rattle.cd.specs.declared.Node.{Node}
-use Rattle.filing.specs.Diagrams.{Iso}
+use Rattle.filing.specs.Diagrams.{Carries, Iso}
+use Rattle.filing.specs.Numberings.{at}
 use Rattle.filing.specs.Records.{recordLength}
 use Rattle.lent.specs.Outcomes.{told}
 use Rattle.lent.specs.Shown.{outcome}
 use Rattle.lexicon.specs.Files.{Files, refused, short, filed}
 use Rattle.lexicon.specs.declared.Filed.{Filed}
-use Rattle.lexicon.proofs.Demand3.{not-both}
+use Rattle.lexicon.proofs.OneAnswer.{not-both, on-accepted}
+use Rattle.lexicon.proofs.OneAnswer as one
 use Rattle.lexicon.proofs.Demand3 as lexicon
 use Rattle.parse.specs.Reading.{Accepted, read}
 use Rattle.parse.specs.declared.Answer.the-variants as said
 use Rattle.tables.specs.Diagrams.{diagram}
-use Rattle.lexicon_c.specs.Calls.{FilesForC}
+use Rattle.lexicon_c.specs.Calls.{FilesForC, replaced}
 
 -- no refusal has the number 0
 numbered : (e : CdError) → 0 < getD (padded 0 4 (numberOf e)) 0 0
@@ -76,6 +79,18 @@ returned-0 {n = n} f z = on-0 n z (f .returned ∙ ap (λ u. getD u 0 0) (f .ans
 pub returns-0 : {text out out′ p p′ u : List ℕ} {n : ℕ} → FilesForC text out out′ p p′ u n → Filed0 text out → n ≡ 0
 returns-0 {n = n} f d = to-0 n (f .returned ∙ ap (λ u. getD u 0 0) (f .answer)) (f .files) d
 
+-- the numbering that such a call leaves
+numbering-0 : {text out out′ p p′ u : List ℕ} {n : ℕ} (f : FilesForC text out out′ p p′ u n) → Filed0 text out → p′ ≡ f .filed .numbering
+unfolding replaced
+numbering-0 {p = p} f d = f .nodes ∙ ap (λ a. replaced a p (f .filed .numbering)) (on-accepted (f .files) (d .accepted) (d .long) .answer)
+
+-- one text, one buffer and one array of nodes before the call, one of each afterwards, and one answer
+pub one-answer : {text out a b p q q′ u v : List ℕ} {m n : ℕ} → FilesForC text out a p q u m → FilesForC text out b p q′ v n → (a ≡ b) × (q ≡ q′) × (u ≡ v) × (m ≡ n)
+one-answer {p = p} {u = u} {v = v} f g =
+    let (bytes, same) = one.one-answer (f .files) (g .files) in
+    let told-same : u ≡ v = f .answer ∙ ap (λ (x : Filed). told (outcome {A = ℕ} (x .answer) (x .count ∷ []) [])) same ∙ sym (g .answer) in
+    (bytes, f .nodes ∙ ap (λ (x : Filed). replaced (x .answer) p (x .numbering)) same ∙ sym (g .nodes), told-same, f .returned ∙ ap (λ z. getD z 0 0) told-same ∙ sym (g .returned))
+
 -- two calls that return 0
 module _ (s t a a′ b b′ p p′ q q′ u v : List ℕ) (m n : ℕ) (files-s : FilesForC s a a′ p p′ u m) (files-t : FilesForC t b b′ q q′ v n) (m-0 : m ≡ 0) (n-0 : n ≡ 0) where
   abbrev pub drawn-s : Filed0 s a
@@ -89,3 +104,12 @@ module _ (s t a a′ b b′ p p′ q q′ u v : List ℕ) (m n : ℕ) (files-s :
   demand-3 =
       lexicon.demand-3 s t (drawn-s .nodes) (drawn-t .nodes) (drawn-s .edges) (drawn-t .edges) a a′ b b′ (files-s .filed) (files-t .filed) (drawn-s .accepted)
       (drawn-t .accepted) (drawn-s .long) (drawn-t .long) (files-s .files) (files-t .files)
+
+  -- which node is which
+  pub nodes-correspond : take (recordLength limit) a′ ≡ take (recordLength limit) b′
+      → (f : ℕ → ℕ) × Carries (diagram (drawn-s .nodes) (drawn-s .edges)) (diagram (drawn-t .nodes) (drawn-t .edges)) f
+      × ((i : ℕ) → i < length (drawn-s .nodes) → f (at p′ i) ≡ at q′ i)
+  nodes-correspond same =
+      let (f, c, to) = lexicon.nodes-correspond s t (drawn-s .nodes) (drawn-t .nodes) (drawn-s .edges) (drawn-t .edges) a a′ b b′ (files-s .filed) (files-t .filed) (drawn-s .accepted)
+          (drawn-t .accepted) (drawn-s .long) (drawn-t .long) (files-s .files) (files-t .files) same in
+      (f, c, λ i h. subst₂ (λ y z. f (at y i) ≡ at z i) (sym (numbering-0 files-s drawn-s)) (sym (numbering-0 files-t drawn-t)) (to i h))

@@ -2,3 +2,4 @@
 pub mod Parts
 pub mod Layouts
 mod Recorded
+pub mod Written

@@ -143,7 +143,7 @@ pub fn is_layout<'a>(
     same(s, &out)
 }
 
-// The record of a diagram, and a numbering that gives it: for each new place its old node.
+// The record of a diagram, and the first numbering that gives it: for each new place its old node.
 pub fn write(cd: Cd, out: &mut [u8]) -> [usize; LIMIT]
     requires { ⌜ Numbers (cd .nodes) × (cd .count ≤ limit) × (recordLength limit ≤ length (now out)) ⌝ }
     ensures { λ p. ⌜ ((ns : List Node) (es : List Stored) → cd ≡ cdOf ns es → IsDiagram limit (diagram ns es) → Written limit (diagram ns es) (now (out .entry)) (now (out .exit)) p) ⌝ }

@@ -22,9 +22,10 @@ pub record Smallest (N : ℕ) (t : Tables) (r : List ℕ) : Type 0 where
   pub spare : drop (t .count) r ≡ drop (t .count) (plain N)
 
 -- ticket K9: "Of all numberings that give the record, return the first, comparing the list of old nodes in new order as numbers from the left."
-abbrev pub Foremost : ℕ → Tables → List ℕ → Type 0
-Foremost N t r = (q : ℕ → ℕ) → Numbering (t .count) q → tableLayout N (t .count) (t .kinds) (t .bits) (t .pairs) q ≡ tableLayout N (t .count) (t .kinds) (t .bits) (t .pairs) (at r)
-    → AtMost (t .count) (at r) q
+pub record Foremost (N : ℕ) (t : Tables) (r : List ℕ) : Type 0 where
+  pub room : length r ≡ N
+  pub first : (q : ℕ → ℕ) → Numbering (t .count) q → tableLayout N (t .count) (t .kinds) (t .bits) (t .pairs) q ≡ tableLayout N (t .count) (t .kinds) (t .bits) (t .pairs) (at r)
+      → AtMost (t .count) (at r) q
 
 -- "It is proved to lie between 1 and the product of the groups' factorials"
 pub record Counted (t : Tables) (count : ℕ) : Type 0 where

@@ -27,7 +27,7 @@ returns : tie.Need-returns
 returns c ns es held is =
     let o = c .before .before .before .before .before .before .before .before .before .before .before .before .before .before in
     let found = c .before .before .before .before .before .before .before .before .before .smallest in
-    record-written limit (o .of .result) (diagram ns es) (o .of .ensures .2 ns es held is) is (found .result .numbering) (found .ensures .0) _ _ (c .before .before .lay .ensures)
+    record-written limit (o .of .result) (diagram ns es) (o .of .ensures .2 ns es held is) is (found .result .numbering) (found .ensures .0) (found .ensures .1) _ _ (c .before .before .lay .ensures)
 
 pub write-spec : {M : Type 1} → statement M
 write-spec = tie.close (tie.spec of-requires smallest-requires lay-requires same-length returns)
