@@ -1,9 +1,9 @@
 -- What is written of an answer, added part by part; and every answer of `write_record` numbers at most `limit` places, each with one digit: an accepted
--- text has at most `limit` nodes, and a refusal numbers none. Blocks put together are the whole output. Assumes nothing.
+-- text has at most `limit` nodes, and a refusal numbers none. Blocks put together are the whole output, which is one only, since the call's answer is. Assumes nothing.
 use Prim.Native.Nat.{ℕ, _≤_, _<_}
 use Prim.Native.Char.{code}
 use mathlib.Core.List.{List, [], _∷_, _++_, map}
-use mathlib.Core.Path.{_≡_, ap}
+use mathlib.Core.Path.{_≡_, sym, ap, ap₂, _∙_}
 use native.Mathlib.Omega.{arith}
 use lib.ListN.{length, getD, take}
 use lib.Seq.{take-all}
@@ -11,16 +11,18 @@ use Rattle.cd.specs.Diagrams.{limit}
 use Rattle.cd.specs.Refusals.{numberOf}
 use Rattle.cd.specs.declared.CdError.{CdError}
 use Rattle.filing.specs.Records.{recordLength}
-use Rattle.lexicon.specs.Files.{Files, refused, short, filed}
+use Rattle.lexicon.proofs.OneAnswer.{on-refused, one-filing}
+use Rattle.lexicon.specs.Files.{Files, refusal, refused, short, filed}
 use Rattle.lexicon.specs.declared.Filed.{Filed}
 use Rattle.lexicon.specs.Answers.{glyph, spaced}
 use Rattle.lines.specs.Blocks.{Blocks}
 use Rattle.lines.specs.Written.{Adds, AddsLine}
-use Rattle.lines.proofs.Blocks.{blocks-answer}
+use Rattle.lines.proofs.Blocks.{blocks-answer, answered-once}
 use Rattle.lines.proofs.Writing.{adds-then}
 use Rattle.parse.specs.declared.Answer.{Answer}
 use Rattle.parse.specs.declared.Answer.the-variants as said
 use Rattle.parse.proofs.Outcomes.{accepted-few}
+use Rattle.records.proofs.Written.{written-numbers}
 use Rattle.scan.specs.Ascii.{ascii}
 use Rattle.tables.specs.Diagrams.{diagram}
 use Rattle.cdfile.specs.Shown.{hexes, shown, Shows, ShowsAll}
@@ -51,7 +53,7 @@ module _ {text out out′ : List ℕ} {r : Filed} where
   one-digit (refused h e k) i l = let z : ⊥ = omega (arith, ap (λ (y : Filed). y .count) e) in absurd z
   one-digit (short h s e k) i l = let z : ⊥ = omega (arith, ap (λ (y : Filed). y .count) e) in absurd z
   one-digit (filed {ns} {es} h s a n w) i l =
-      let b = w .numbering .within i (rw n at l) in
+      let b = written-numbers w .within i (rw n at l) in
       omega (arith, accepted-few text ns es h)
 
   pub shows-line : {a b c : List ℕ} {i j k : ℕ} → Files text out out′ r → recordLength limit ≤ length out → length out′ ≤ recordLength limit
@@ -66,3 +68,23 @@ module _ {text out out′ : List ℕ} {r : Filed} where
 
 pub blocks-show : {input output : List ℕ} → Blocks Shows input 0 output → ShowsAll input output
 blocks-show b = blocks-answer b
+
+abbrev lineOf : Filed → List ℕ → List ℕ
+lineOf r bytes = shown (r .answer) bytes (take (r .count) (r .numbering))
+
+line-refused : {e : CdError} (r : Filed) (bytes : List ℕ) → r ≡ refusal e → lineOf r bytes ≡ ascii "no" ++ spaced (numberOf e)
+unfolding shown
+line-refused r bytes h = rw h
+
+shows-once : (text x y : List ℕ) → Shows text x → Shows text y → x ≡ y
+shows-once text x y a b = a .line ∙ ap (λ l. l ++ ascii "\n") (go (a .files)) ∙ sym (b .line)
+  where
+    go : Files text (a .out) (a .out′) (a .filed) → lineOf (a .filed) (take (recordLength limit) (a .out′)) ≡ lineOf (b .filed) (take (recordLength limit) (b .out′))
+    go (refused h e k) = line-refused (a .filed) _ e ∙ sym (line-refused (b .filed) _ (on-refused (b .files) h .0))
+    go (short h s e k) = let l = a .long in absurd (omega arith)
+    go (filed h s e n w) =
+        let (bytes, same) = one-filing h (a .long) (b .long) (a .files) (b .files) in
+        ap₂ lineOf same bytes
+
+pub one-showing : (input : List ℕ) {x y : List ℕ} → ShowsAll input x → ShowsAll input y → x ≡ y
+one-showing input a b = answered-once shows-once a b

@@ -38,7 +38,7 @@ pub record Accepts (ns : List Node) (es : List Stored) (out out′ : List ℕ) (
   pub written : Written limit (diagram ns es) out out′ (r .numbering)
 
 module _ {text out out′ : List ℕ} {r : Filed} where
-  on-refused : {e : CdError} → Files text out out′ r → read text ≡ Refused e → (r ≡ refusal e) × (out′ ≡ out)
+  pub on-refused : {e : CdError} → Files text out out′ r → read text ≡ Refused e → (r ≡ refusal e) × (out′ ≡ out)
   on-refused (refused h q o) k = (q ∙ ap refusal (one-refusal h k), o)
   on-refused (short h l q o) k = absurd (not-both k h)
   on-refused (filed h l a n w) k = absurd (not-both k h)
