@@ -33,7 +33,8 @@ from collections import Counter, namedtuple
 from functools import lru_cache
 from pathlib import Path
 
-PUBLIC = ("lexicon", "geometry", "lexicon_c", "lexicon/proofs/Demand3.antt: demand-3")
+PUBLIC = ("lexicon", "geometry", "lexicon_c", "lexicon/proofs/Demand3.antt: demand-3", "lexicon/proofs/Demand3.antt: nodes-correspond",
+          "lexicon/proofs/OneAnswer.antt: one-answer", "lexicon/proofs/OneAnswer.antt: one-filing")
 PROGRAMS = ("cdlist", "cdfile", "cdlist/proofs/Whole.antt: blocks-list", "cdfile/proofs/Filings.antt: blocks-show")
 
 TOP = Path(__file__).resolve().parent.parent

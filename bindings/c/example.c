@@ -13,6 +13,7 @@ struct article {
     size_t place;
     const char *text;
     uint8_t record[LEXICON_RECORD];
+    size_t numbering[LEXICON_LIMIT], nodes;
 };
 
 static const uint8_t *bytes(const char *text)
@@ -73,16 +74,17 @@ static bool print_diagram(const char *text)
 }
 
 // Of a text that was accepted, which the call cannot refuse.
-static void print_record(const char *text, uint8_t *record)
+static void print_record(struct article *article)
 {
-    size_t numbering[LEXICON_LIMIT], answer[LEXICON_ANSWER];
-    lexicon_write_record(bytes(text), strlen(text), record, LEXICON_RECORD, numbering, answer);
+    size_t answer[LEXICON_ANSWER];
+    lexicon_write_record(bytes(article->text), strlen(article->text), article->record, LEXICON_RECORD, article->numbering, answer);
+    article->nodes = answer[1];
     printf("  record: ");
     for (size_t i = 0; i < LEXICON_RECORD; i++)
-        printf("%02x", (unsigned)record[i]);
+        printf("%02x", (unsigned)article->record[i]);
     printf("\n  numbering:");
-    for (size_t i = 0; i < answer[1]; i++)
-        printf(" %zu", numbering[i]);
+    for (size_t i = 0; i < article->nodes; i++)
+        printf(" %zu", article->numbering[i]);
     printf("\n");
 }
 
@@ -120,14 +122,27 @@ static int by_record(const void *a, const void *b)
     return order != 0 ? order : (x->place > y->place) - (x->place < y->place);
 }
 
+// Two texts with the same record: nodes at the same place of it correspond.
+static void print_corresponding(const struct article *one, const struct article *other)
+{
+    size_t node[LEXICON_LIMIT];
+    for (size_t i = 0; i < one->nodes; i++)
+        node[one->numbering[i]] = other->numbering[i];
+    for (size_t i = 0; i < one->nodes; i++)
+        printf("%s %zu-%zu", i ? "," : ", nodes", i, node[i]);
+}
+
 // Sorted by their records, texts of one figure stand side by side.
 static void print_same(struct article *articles, size_t count)
 {
     qsort(articles, count, sizeof *articles, by_record);
     for (size_t i = 1; i < count; i++) {
-        bool same = memcmp(articles[i - 1].record, articles[i].record, LEXICON_RECORD) == 0;
-        if (same)
-            printf("`%s` and `%s` are the same figure\n", articles[i - 1].text, articles[i].text);
+        const struct article *one = &articles[i - 1], *other = &articles[i];
+        if (memcmp(one->record, other->record, LEXICON_RECORD) != 0)
+            continue;
+        printf("`%s` and `%s` are the same figure", one->text, other->text);
+        print_corresponding(one, other);
+        printf("\n");
     }
 }
 
@@ -146,7 +161,7 @@ int main(int argc, char **argv)
         struct article *article = &articles[accepted++];
         article->place = i;
         article->text = texts[i];
-        print_record(texts[i], article->record);
+        print_record(article);
         print_mirrors(texts[i]);
         print_radius(texts[i]);
     }

@@ -148,8 +148,12 @@ impl Cd {
         self.record_and_numbering().0
     }
 
-    /// The record, and a numbering that gives it: for each place of the record the node of this
+    /// The record, and the numbering that gives it: for each place of the record the node of this
     /// diagram that stands there. With it, what belongs to a node can be filed with the record.
+    ///
+    /// Of all numberings that give the record it is the first, compared as lists of numbers from the
+    /// left. So a text has one numbering, in every version of this crate, and a drawing that is made
+    /// from it does not change. [`Cd::corresponding_nodes`] compares the numberings of two texts.
     ///
     /// ```
     /// use lexicon::Cd;
@@ -163,6 +167,32 @@ impl Cd {
     pub fn record_and_numbering(&self) -> (Record, Vec<usize>) {
         let (bytes, numbering) = answered(ffi::write_record(self.text.as_bytes()));
         (Record::from_trusted_bytes(&bytes), numbering)
+    }
+
+    /// For each node of this diagram the node of the other that corresponds to it, or `None` if the
+    /// two are different figures. Corresponding nodes stand at the same place of the record: sent so,
+    /// this diagram is carried onto the other, kinds, lengths and fractions alike. Where a figure has
+    /// symmetries, other ways of sending the nodes do so too; this one is always the same.
+    ///
+    /// ```
+    /// use lexicon::Cd;
+    ///
+    /// let typed = Cd::parse("x3o4o")?;
+    /// assert_eq!(typed.corresponding_nodes(&Cd::parse("o4o3x")?), Some(vec![2, 1, 0]));
+    /// assert_eq!(typed.corresponding_nodes(&Cd::parse("x4o3o")?), None);
+    /// # Ok::<(), lexicon::CdError>(())
+    /// ```
+    #[must_use]
+    pub fn corresponding_nodes(&self, other: &Cd) -> Option<Vec<usize>> {
+        let (record, from) = self.record_and_numbering();
+        let (same, to) = other.record_and_numbering();
+        (record == same).then(|| {
+            let mut nodes = vec![0; from.len()];
+            for (&node, &corresponding) in from.iter().zip(&to) {
+                nodes[node] = corresponding;
+            }
+            nodes
+        })
     }
 
     /// The Coxeter matrix: 1 on the diagonal, an edge's value where it joins two nodes, else 2.

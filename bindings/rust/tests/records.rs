@@ -62,6 +62,43 @@ fn the_numbering_gives_the_record() {
     assert_eq!(diagram.edges.len(), cd.edge_count());
 }
 
+/// Of symmetric figures, by hand: the nodes by rising number, as far as the record allows it.
+#[test]
+fn the_numbering_is_the_first() {
+    for (text, first) in [
+        ("xxx", vec![0, 1, 2]),
+        ("xxo", vec![2, 0, 1]),
+        ("x3x x", vec![2, 0, 1]),
+        ("x3x3x", vec![0, 2, 1]),
+        ("x3x3x3*a", vec![0, 1, 2]),
+        ("x3x x3x", vec![0, 2, 3, 1]),
+        ("x3x3x3x3*a", vec![0, 2, 1, 3]),
+        ("x3o3o3o", vec![3, 1, 2, 0]),
+        ("xxxxxxxxx", (0..9).collect()),
+        ("*a", vec![]),
+    ] {
+        assert_eq!(Cd::parse(text).unwrap().record_and_numbering().1, first, "{text}");
+    }
+}
+
+#[test]
+fn corresponding_nodes_carry_one_diagram_onto_the_other() {
+    let one = Cd::parse("x3x4o q5/2x").unwrap();
+    let other = Cd::parse("q5/2x o4x3x").unwrap();
+    let nodes = one.corresponding_nodes(&other).unwrap();
+    assert_eq!(nodes, [4, 3, 2, 0, 1]);
+    for (node, &corresponding) in nodes.iter().enumerate() {
+        assert_eq!(one.nodes()[node], other.nodes()[corresponding]);
+    }
+    for stored in one.edges() {
+        let ends = [nodes[stored.a], nodes[stored.b]];
+        let same = |other: &&lexicon::StoredEdge| ends.contains(&other.a) && ends.contains(&other.b);
+        assert_eq!(other.edges().iter().find(same).unwrap().edge, stored.edge);
+    }
+    assert_eq!(one.corresponding_nodes(&Cd::parse("x3x4o q5/3x").unwrap()), None);
+    assert_eq!(Cd::parse("*a").unwrap().corresponding_nodes(&Cd::parse("*b2*z").unwrap()), Some(vec![]));
+}
+
 #[test]
 fn round_trips_by_bytes_and_by_digits() {
     for text in ["*a", "x", "x3o4o", "s5/2s3s", "(inf)3(-0)7/3o", "ooooooo"] {
