@@ -5,10 +5,14 @@ use std::{
     error::Error,
 };
 
-use lexicon::{Cd, CdError, Record, RecordError};
+use lexicon::{Cd, CdError, Record, RecordError, StoredEdge};
+
+fn cd(text: &str) -> Cd {
+    Cd::parse(text).unwrap()
+}
 
 fn record(text: &str) -> Record {
-    Cd::parse(text).unwrap().record()
+    cd(text).record()
 }
 
 #[test]
@@ -47,7 +51,7 @@ fn has_the_bytes_of_the_specification() {
 
 #[test]
 fn the_numbering_gives_the_record() {
-    let cd = Cd::parse("q3o x4s *b5*c").unwrap();
+    let cd = cd("q3o x4s *b5*c");
     let (record, numbering) = cd.record_and_numbering();
     let diagram = record.diagram();
     for (place, &node) in numbering.iter().enumerate() {
@@ -56,7 +60,7 @@ fn the_numbering_gives_the_record() {
     let place = |node| numbering.iter().position(|&old| old == node).unwrap();
     for stored in cd.edges() {
         let (a, b) = (place(stored.a), place(stored.b));
-        let same = |other: &&lexicon::StoredEdge| (other.a, other.b) == (a.min(b), a.max(b));
+        let same = |other: &&StoredEdge| (other.a, other.b) == (a.min(b), a.max(b));
         assert_eq!(diagram.edges.iter().find(same).unwrap().edge, stored.edge);
     }
     assert_eq!(diagram.edges.len(), cd.edge_count());
@@ -77,14 +81,14 @@ fn the_numbering_is_the_first() {
         ("xxxxxxxxx", (0..9).collect()),
         ("*a", vec![]),
     ] {
-        assert_eq!(Cd::parse(text).unwrap().record_and_numbering().1, first, "{text}");
+        let (_, numbering) = cd(text).record_and_numbering();
+        assert_eq!(numbering, first, "{text}");
     }
 }
 
 #[test]
 fn corresponding_nodes_carry_one_diagram_onto_the_other() {
-    let one = Cd::parse("x3x4o q5/2x").unwrap();
-    let other = Cd::parse("q5/2x o4x3x").unwrap();
+    let [one, other, apart] = ["x3x4o q5/2x", "q5/2x o4x3x", "x3x4o q5/3x"].map(cd);
     let nodes = one.corresponding_nodes(&other).unwrap();
     assert_eq!(nodes, [4, 3, 2, 0, 1]);
     for (node, &corresponding) in nodes.iter().enumerate() {
@@ -92,11 +96,11 @@ fn corresponding_nodes_carry_one_diagram_onto_the_other() {
     }
     for stored in one.edges() {
         let ends = [nodes[stored.a], nodes[stored.b]];
-        let same = |other: &&lexicon::StoredEdge| ends.contains(&other.a) && ends.contains(&other.b);
-        assert_eq!(other.edges().iter().find(same).unwrap().edge, stored.edge);
+        let joins = |edge: &&StoredEdge| ends.contains(&edge.a) && ends.contains(&edge.b);
+        assert_eq!(other.edges().iter().find(joins).unwrap().edge, stored.edge);
     }
-    assert_eq!(one.corresponding_nodes(&Cd::parse("x3x4o q5/3x").unwrap()), None);
-    assert_eq!(Cd::parse("*a").unwrap().corresponding_nodes(&Cd::parse("*b2*z").unwrap()), Some(vec![]));
+    assert_eq!(one.corresponding_nodes(&apart), None);
+    assert_eq!(cd("*a").corresponding_nodes(&cd("*b2*z")), Some(vec![]));
 }
 
 #[test]

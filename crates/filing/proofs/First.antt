@@ -44,37 +44,44 @@ module _ (N : ℕ) (d : Diagram) (few : d .size ≤ N) {bs : List ℕ} (ra : IsR
   key-local : (p q : ℕ → ℕ) → ((i : ℕ) → i < n → p i ≡ q i) → key p ≡ key q
   key-local p q e = ap₂ _++_ (layout-local N d p q e) (blocks-same _ _ n (λ i h. let x = e i h in cc))
 
-  pub first-exists : (old : List ℕ) × First N d bs old
-  first-exists =
-      let (r, valid, least) = smallest-key n key key-local in
-      let same-nodes : Agree n (at (listed n (at r))) (at r) = λ i h. singles-at (at r) n 0 i h in
-      let front : layout N d (at r) ≼ layout N d (ra .numbering) =
-          ≼-front (layout N d (at r)) (layout N d (ra .numbering)) (listed n (at r)) (listed n (ra .numbering)) (length-layout N d few (at r) ∙ sym (length-layout N d few (ra .numbering))) (least (ra .numbering) (ra .valid)) in
-      let laid : bs ≡ layout N d (at r) = ≼-antisym (ra .least (at r) valid) (subst (λ z. layout N d (at r) ≼ z) (sym (ra .laid)) front) in
-      let gives : Gives N d bs (listed n (at r)) = record {
+  -- the smallest of all
+  module _ (r : List ℕ) (valid : Numbering n (at r)) (least : (q : ℕ → ℕ) → Numbering n q → key (at r) ≼ key q) where
+    laid : bs ≡ layout N d (at r)
+    laid =
+        let long = length-layout N d few (at r) ∙ sym (length-layout N d few (ra .numbering)) in
+        let front = ≼-front (layout N d (at r)) (layout N d (ra .numbering)) (listed n (at r)) (listed n (ra .numbering)) long (least (ra .numbering) (ra .valid)) in
+        ≼-antisym (ra .least (at r) valid) (subst (λ z. layout N d (at r) ≼ z) (sym (ra .laid)) front)
+
+    same-nodes : Agree n (at (listed n (at r))) (at r)
+    same-nodes i h = singles-at (at r) n 0 i h
+
+    first-found : First N d bs (listed n (at r))
+    first-found = record {
+      gives = record {
         long = length-singles (at r) n;
         valid = numbering-same same-nodes valid;
         laid = laid ∙ sym (layout-local N d (at (listed n (at r))) (at r) same-nodes);
-      } in
-      (listed n (at r), record {
-        gives = gives;
-        least = λ other g. ≼-before (layout N d (at r))
-            (subst₂ (λ z l. (layout N d (at r) ++ listed n (at r)) ≼ (z ++ l)) (sym (g .laid) ∙ laid) (listed-at n other (g .long)) (least (at other) (g .valid)));
-      })
+      };
+      least = λ other g. ≼-before (layout N d (at r))
+          (subst₂ (λ z l. key (at r) ≼ (z ++ l)) (sym (g .laid) ∙ laid) (listed-at n other (g .long)) (least (at other) (g .valid)));
+    }
+
+  pub first-exists : (old : List ℕ) × First N d bs old
+  first-exists = let (r, valid, least) = smallest-key n key key-local in (listed n (at r), first-found r valid least)
 
 -- ---- lists as sequences
 
-pub at-most-list : (xs ys : List ℕ) → length xs ≡ length ys → AtMost (length xs) (at xs) (at ys) → xs ≼ ys
-at-most-list [] ys l a = ends
-at-most-list (x ∷ xs) [] l a = absurd (suc-ne-zero (length xs) l)
-at-most-list (x ∷ xs) (y ∷ ys) l a = go a (at-most-list xs ys (suc-inj l))
+pub at-most-list : (n : ℕ) (xs ys : List ℕ) → length xs ≡ n → length ys ≡ n → AtMost n (at xs) (at ys) → xs ≼ ys
+at-most-list n [] ys l m a = ends
+at-most-list zero (x ∷ xs) ys l m a = absurd (suc-ne-zero (length xs) l)
+at-most-list (suc n) (x ∷ xs) [] l m a = absurd (suc-ne-zero n (sym m))
+at-most-list (suc n) (x ∷ xs) (y ∷ ys) l m a = go a (at-most-list n xs ys (suc-inj l) (suc-inj m))
   where
-    first-differ : (AtMost (length xs) (at xs) (at ys) → xs ≼ ys) → (k : ℕ) → k < suc (length xs) → Agree k (at (x ∷ xs)) (at (y ∷ ys))
-        → at (x ∷ xs) k < at (y ∷ ys) k → (x ∷ xs) ≼ (y ∷ ys)
+    first-differ : (AtMost n (at xs) (at ys) → xs ≼ ys) → (k : ℕ) → k < suc n → Agree k (at (x ∷ xs)) (at (y ∷ ys)) → at (x ∷ xs) k < at (y ∷ ys) k → (x ∷ xs) ≼ (y ∷ ys)
     first-differ rest zero low agree h = less h
     first-differ rest (suc k) low agree h =
         same (agree zero (zero-lt-suc k)) (rest (inl record { place = k; low = omega arith; agree = λ i m. agree (suc i) (omega arith); less = h }))
 
-    go : AtMost (suc (length xs)) (at (x ∷ xs)) (at (y ∷ ys)) → (AtMost (length xs) (at xs) (at ys) → xs ≼ ys) → (x ∷ xs) ≼ (y ∷ ys)
+    go : AtMost (suc n) (at (x ∷ xs)) (at (y ∷ ys)) → (AtMost n (at xs) (at ys) → xs ≼ ys) → (x ∷ xs) ≼ (y ∷ ys)
     go (inl b) rest = first-differ rest (b .place) (b .low) (b .agree) (b .less)
-    go (inr a) rest = same (a zero (zero-lt-suc (length xs))) (rest (inr (λ i h. a (suc i) (omega arith))))
+    go (inr a) rest = same (a zero (zero-lt-suc n)) (rest (inr (λ i h. a (suc i) (omega arith))))

@@ -21,7 +21,6 @@ use Rattle.lexicon.specs.declared.Filed.{Filed}
 use Rattle.lexicon.proofs.Fileable.{accepted-diagram}
 use Rattle.lexicon.proofs.OneAnswer.{on-accepted}
 
-
 -- two texts, accepted; two buffers that 12 does not refuse, before and after; and two answers that the promise allows
 module _ (s t : List ℕ) (ns ms : List Node) (es fs : List Stored) (a a′ b b′ : List ℕ) (x y : Filed)
     (accepted-s : read s ≡ Accepted ns es) (accepted-t : read t ≡ Accepted ms fs)

@@ -110,6 +110,7 @@ module _ (s t a a′ b b′ p p′ q q′ u v : List ℕ) (m n : ℕ) (files-s :
       → (f : ℕ → ℕ) × Carries (diagram (drawn-s .nodes) (drawn-s .edges)) (diagram (drawn-t .nodes) (drawn-t .edges)) f
       × ((i : ℕ) → i < length (drawn-s .nodes) → f (at p′ i) ≡ at q′ i)
   nodes-correspond same =
-      let (f, c, to) = lexicon.nodes-correspond s t (drawn-s .nodes) (drawn-t .nodes) (drawn-s .edges) (drawn-t .edges) a a′ b b′ (files-s .filed) (files-t .filed) (drawn-s .accepted)
-          (drawn-t .accepted) (drawn-s .long) (drawn-t .long) (files-s .files) (files-t .files) same in
+      let (f, c, to) =
+      lexicon.nodes-correspond s t (drawn-s .nodes) (drawn-t .nodes) (drawn-s .edges) (drawn-t .edges) a a′ b b′ (files-s .filed) (files-t .filed) (drawn-s .accepted)
+      (drawn-t .accepted) (drawn-s .long) (drawn-t .long) (files-s .files) (files-t .files) same in
       (f, c, λ i h. subst₂ (λ y z. f (at y i) ≡ at z i) (sym (numbering-0 files-s drawn-s)) (sym (numbering-0 files-t drawn-t)) (to i h))

@@ -12,7 +12,6 @@ use Rattle.filing.specs.Diagrams.{Diagram, IsDiagram}
 use Rattle.filing.specs.First.{Gives, First}
 use Rattle.filing.specs.Numberings.{Numbering, at, plain}
 use Rattle.filing.specs.Records.{recordLength, layout}
-use Rattle.filing.specs.Sequences.{AtMost}
 use Rattle.filing.proofs.First.{at-most-list}
 use Rattle.filing.proofs.Layouts.{length-layout, layout-local}
 use Rattle.filing.proofs.Numberings.{numbering-same}
@@ -50,10 +49,8 @@ module _ (N : ℕ) (t : Tables) (d : Diagram) (held : Holds N t d) (is : IsDiagr
       least-list : (other : List ℕ) → Gives N d bs other → take (d .size) p ≼ other
       least-list other g =
           let laid-same = table-layout N t d held is (at other) (g .valid) ∙ sym (g .laid) ∙ gives ∙ sym (table-layout N t d held is (at p) numbers) in
-          let a = foremost .first (at other) (subst (λ n. Numbering n (at other)) (sym (held .count)) (g .valid)) laid-same in
-          let b : AtMost (length (take (d .size) p)) (at (take (d .size) p)) (at other) =
-              subst (λ n. AtMost n (at (take (d .size) p)) (at other)) (sym cut) (at-most-trans (at (take (d .size) p)) (at p) (at other) (inr same-nodes) (rw (held .count) at a)) in
-          at-most-list (take (d .size) p) other (cut ∙ sym (g .long)) b
+          let a = rw (held .count) at (foremost .first (at other) (subst (λ n. Numbering n (at other)) (sym (held .count)) (g .valid)) laid-same) in
+          at-most-list (d .size) (take (d .size) p) other cut (g .long) (at-most-trans (at (take (d .size) p)) (at p) (at other) (inr same-nodes) a)
 
   pub record-written : (out out′ : List ℕ) → out′ ≡ laid (at p) ++ drop (recordLength N) out → Written N d out out′ p
   record-written out out′ e = record {
