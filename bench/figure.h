@@ -2,6 +2,7 @@
 #ifndef FIGURE_H
 #define FIGURE_H
 
+#include <stddef.h>
 #include <stdint.h>
 
 #include "lexicon.h"
@@ -28,8 +29,9 @@ void lay_out(const struct figure *f, const int *numbering, uint8_t *out);
 // How many numberings the plain C search carries to the end.
 uint64_t count_plain(const char *text);
 
-// Text to bytes: the record by that search; a form of nauty's numbering (only where NAUTY is defined).
-void file_plain(const char *text, uint8_t *out);
-void file_nauty(const char *text, uint8_t *out);
+// Text to bytes and the nodes at their places: the record by that search, with the first numbering that gives it; a form of nauty's
+// numbering (only where NAUTY is defined).
+void file_plain(const char *text, uint8_t *out, size_t *numbering);
+void file_nauty(const char *text, uint8_t *out, size_t *numbering);
 
 #endif

@@ -5,7 +5,7 @@
 #include "figure.h"
 #include "timing.h"
 
-typedef void filer(const char *text, uint8_t *out);
+typedef void filer(const char *text, uint8_t *out, size_t *numbering);
 
 struct work {
     filer *file;
@@ -27,9 +27,9 @@ static const struct texts {
     {"nine lengths, `x3q3f3h3k3u3w3F3e`", "x3q3f3h3k3u3w3F3e", "e3F3w3u3k3h3f3q3x", "q3x3f3h3k3u3w3F3e", 1},
 };
 
-static void file_proved(const char *text, uint8_t *out)
+static void file_proved(const char *text, uint8_t *out, size_t *numbering)
 {
-    size_t numbering[LEXICON_LIMIT], answer[LEXICON_ANSWER];
+    size_t answer[LEXICON_ANSWER];
     if (lexicon_write_record((const uint8_t *)text, strlen(text), out, LEXICON_RECORD, numbering, answer))
         fail("record", text, "refused");
 }
@@ -38,17 +38,19 @@ static void run(const void *input, uint64_t turns)
 {
     const struct work *w = input;
     uint8_t out[LEXICON_RECORD];
+    size_t numbering[LEXICON_LIMIT];
     for (uint64_t n = 0; n < turns; n++)
-        w->file(w->text, out);
+        w->file(w->text, out, numbering);
 }
 
 // Two spellings have the same bytes, another figure has others.
 static void check_identity(filer *file, const struct texts *t)
 {
     uint8_t bytes[LEXICON_RECORD], same[LEXICON_RECORD], other[LEXICON_RECORD];
-    file(t->text, bytes);
-    file(t->same, same);
-    file(t->other, other);
+    size_t numbering[LEXICON_LIMIT];
+    file(t->text, bytes, numbering);
+    file(t->same, same, numbering);
+    file(t->other, other, numbering);
     if (memcmp(bytes, same, sizeof bytes) || !memcmp(bytes, other, sizeof bytes))
         fail("record", t->text, "its spellings have different bytes, or another figure the same");
 }
@@ -56,10 +58,13 @@ static void check_identity(filer *file, const struct texts *t)
 static void check_bytes(const char *text)
 {
     uint8_t ours[LEXICON_RECORD], plain[LEXICON_RECORD];
-    file_proved(text, ours);
-    file_plain(text, plain);
+    size_t numbering[LEXICON_LIMIT], plain_numbering[LEXICON_LIMIT];
+    file_proved(text, ours, numbering);
+    file_plain(text, plain, plain_numbering);
     if (memcmp(ours, plain, sizeof ours))
         fail("record", text, "the plain C search finds another");
+    if (memcmp(numbering, plain_numbering, ours[0] * sizeof *numbering)) // byte 0 counts the nodes
+        fail("record", text, "the plain C search finds another numbering");
 }
 
 static void check_count(const struct texts *t)

@@ -1,18 +1,22 @@
-"""The filing record, from document 01's words alone, and what the program `replay_filing` answers to each line of its input.
+"""The filing record and its numbering, from document 01's words and ticket K9's alone, and what the program `replay_filing` answers to
+each line of its input.
 
-`filing.py`        the two ways to a record agree; crates/replay_filing holds the lines of filing_corpus.py, and as its answers the model's
+`filing.py`        the two ways to a record agree, and those to its numbering; crates/replay_filing holds the lines of filing_corpus.py,
+                   and as its answers the model's
 `filing.py write`  stores them
 
-A line's text ends at the `|`, which no text holds. OOO, VV, LLL and digests are lower-case hexadecimal.
+A line's text ends at the `|`, which no text holds. OOO, VV, LLL and digests are lower-case hexadecimal. A numbering has a digit for each
+place, the number of the text's node there; it is `-` where there are no nodes.
 
-    TEXT            ok DIGEST NODES EDGES    the text's record, and the counts of the diagram that it is read back to; or the text's refusal
-    TEXT|TEXT       same DIGEST              the records of two accepted texts
+    TEXT            ok DIGEST NODES EDGES NUMBERING    the text's record, the counts of the diagram that it is read back to, and the first
+                                                       numbering that gives the record; or the text's refusal
+    TEXT|TEXT       same DIGEST NUMBERING NUMBERING    the records of two accepted texts; nodes at the same place correspond
                     apart DIGEST DIGEST
-    TEXT|!OOOVV..   ok NODES EDGES           the record read back after its byte OOO became VV, for each five digits
+    TEXT|!OOOVV..   ok NODES EDGES                     the record read back after its byte OOO became VV, for each five digits
                     no 13, no 14
-    TEXT|~LLL       the same                 the first LLL bytes of the record and 30 zeros, read back
-    TEXT|^LLL       ok DIGEST                the record written to the first LLL of 400 bytes a5; the digest is of all 400
-                    no .. DIGEST             12, or the text's refusal
+    TEXT|~LLL       the same                           the first LLL bytes of the record and 30 zeros, read back
+    TEXT|^LLL       ok DIGEST                          the record written to the first LLL of 400 bytes a5; the digest is of all 400
+                    no .. DIGEST                       12, or the text's refusal
 
 Exit status: 0 nothing differs, 1 something does.
 """
@@ -101,6 +105,35 @@ def laid_out(nodes, edges, numbering):
     return bytes(data)
 
 
+def first(diagram):
+    """K9: "Of all numberings that give the record, return the first, comparing the list of old nodes in new order as numbers from the
+    left." Place by place the nodes are tried by rising number, and only those are gone on with whose bytes are the record's."""
+    nodes, edges = diagram
+    data, keys, fraction = record(diagram), [node_bytes(*node) for node in nodes], fractions(edges)
+
+    def fits(begun, node):
+        j = len(begun)
+        return (node not in begun and keys[node] == data[node_at(j):node_at(j + 1)]
+                and all(fraction(earlier, node) == data[pair_at(i, j):pair_at(i + 1, j)] for i, earlier in enumerate(begun)))
+
+    def whole(begun):
+        """The numberings that go on from there, in rising order."""
+        if len(begun) == len(nodes):
+            yield begun
+        for node in range(len(nodes)):
+            if fits(begun, node):
+                yield from whole(begun + (node,))
+
+    return next(whole(()))
+
+
+def first_by_all(diagram):
+    """The same from all numberings in rising order, each laid out by document 01's offsets: slow beyond six nodes unless it comes early."""
+    nodes, edges = diagram
+    data = record(diagram)
+    return next(numbering for numbering in itertools.permutations(range(len(nodes))) if laid_out(nodes, edges, numbering) == data)
+
+
 def read_back(data):
     """The diagram that the record is read back to, or 13 or 14. If a diagram has these bytes, so has the one that they spell."""
     if len(data) != LENGTH:
@@ -150,11 +183,15 @@ def answer(line):
         return counted(read_back(record_of(text).ljust(BUFFER, b"\0")[:int(digits, 16)]))
     if sign == b"^":
         return written(text, int(digits, 16))
-    return compared(record_of(text), record_of(rest))
+    return compared(text, rest)
 
 
 def record_of(text):
     return record(model.read(text))
+
+
+def numbering_of(text):
+    return "".join(map(str, first(model.read(text)))) or "-"
 
 
 def filed(text):
@@ -163,11 +200,14 @@ def filed(text):
     except model.Refusal:
         return model.answer(text)
     nodes, edges = read_back(data)
-    return f"ok {digest(data)} {len(nodes)} {len(edges)}"
+    return f"ok {digest(data)} {len(nodes)} {len(edges)} {numbering_of(text)}"
 
 
-def compared(left, right):
-    return f"same {digest(left)}" if left == right else f"apart {digest(left)} {digest(right)}"
+def compared(one, other):
+    left, right = record_of(one), record_of(other)
+    if left != right:
+        return f"apart {digest(left)} {digest(right)}"
+    return f"same {digest(left)} {numbering_of(one)} {numbering_of(other)}"
 
 
 def changed(data, digits):
@@ -200,11 +240,12 @@ def main(mode="check"):
     import filing_corpus                                                    # imports this file
 
     tally = collections.Counter(differ=0)
-    for what, left, right in filing_corpus.twice():
-        tally["records found in two ways"] += 1
-        if left != right:
-            tally["differ"] += 1
-            print(f"{what!r}\n    {left.hex()}\n    {right.hex()}")
+    for things, found in {"records": filing_corpus.twice(), "numberings": filing_corpus.numbered_twice()}.items():
+        for what, left, right in found:
+            tally[f"{things} found in two ways"] += 1
+            if left != right:
+                tally["differ"] += 1
+                print(f"{what!r}\n    {bytes(left).hex()}\n    {bytes(right).hex()}")
 
     lines, answers = [], []
     for line, expected in filing_corpus.corpus():

@@ -1,6 +1,8 @@
-// Reads as `cdlist` does, and answers each line with a text's record: its digest, its equality with another's, what it is read back to once
-// bytes are changed or cut off, or what a part of a buffer holds after the call. oracle/filing.py has the kinds of lines.
+// Reads as `cdlist` does, and answers each line with a text's record: its digest and numbering, its equality with another's, what it is read
+// back to once bytes are changed or cut off, or what a part of a buffer holds after the call. oracle/filing.py has the kinds of lines.
 use cd::Cd;
+use cd::LIMIT;
+use lexicon::Filed;
 use parse::Answer;
 use parse::Read;
 use records::RECORD;
@@ -118,6 +120,28 @@ fn put_digest(out: &mut [u8], at: usize, bytes: &[u8]) -> usize
     lines::put_all(out, to, &digits[..k])
 }
 
+// A space and for each place the digit of its node, `-` where there are no nodes. Nodes are below ten: the modulus changes none.
+fn put_numbering(out: &mut [u8], at: usize, f: Filed) -> usize
+    requires { ⌜ at + 10 ≤ length (now out) ⌝ }
+    ensures { λ r. ⌜ r ≤ at + 10 ⌝ }
+{
+    let count = f.count;
+    if count == 0 {
+        return lines::put_all(out, at, b" -");
+    }
+    let mut to = lines::put(out, at, b' ');
+    let mut i = 0;
+    while i < LIMIT {
+        if i == count {
+            return to;
+        }
+        let node = f.numbering[i];
+        to = lines::put(out, to, b'0' + (node % 10) as u8);
+        i += 1;
+    }
+    to
+}
+
 // `ok`, or `no` and the figures.
 fn put_answer(out: &mut [u8], at: usize, a: Answer) -> usize
     requires { ⌜ at + 86 ≤ length (now out) ⌝ }
@@ -159,8 +183,8 @@ fn put_read(out: &mut [u8], at: usize, r: Read) -> usize
 
 // TEXT
 fn filed(text: &[u8], out: &mut [u8], at: usize) -> usize
-    requires { ⌜ at + 137 ≤ length (now out) ⌝ }
-    ensures { λ r. ⌜ r ≤ at + 137 ⌝ }
+    requires { ⌜ at + 147 ≤ length (now out) ⌝ }
+    ensures { λ r. ⌜ r ≤ at + 147 ⌝ }
 {
     let mut bytes = filled(UNWRITTEN);
     let f = lexicon::write_record(text, &mut bytes);
@@ -174,27 +198,47 @@ fn filed(text: &[u8], out: &mut [u8], at: usize) -> usize
             let back = r.answer;
             let mut to = put_answer(out, at, back);
             to = put_digest(out, to, file);
-            put_counts(out, to, cd)
+            to = put_counts(out, to, cd);
+            put_numbering(out, to, f)
         }
     }
 }
 
-// TEXT|TEXT
-fn compared(one: &[u8], other: &[u8], out: &mut [u8], at: usize) -> usize
+// Two texts have one record: the numberings tell which node is which.
+fn put_same(out: &mut [u8], at: usize, bytes: &[u8], f: Filed, g: Filed) -> usize
+    requires { ⌜ at + 33 ≤ length (now out) ⌝ }
+    ensures { λ r. ⌜ r ≤ at + 33 ⌝ }
+{
+    let mut to = lines::put_all(out, at, b"same");
+    to = put_digest(out, to, bytes);
+    to = put_numbering(out, to, f);
+    put_numbering(out, to, g)
+}
+
+fn put_apart(out: &mut [u8], at: usize, a: &[u8], b: &[u8]) -> usize
     requires { ⌜ at + 23 ≤ length (now out) ⌝ }
     ensures { λ r. ⌜ r ≤ at + 23 ⌝ }
 {
-    let left = record_bytes(one, UNWRITTEN);
-    let right = record_bytes(other, UNWRITTEN);
-    let a = &left[0..RECORD];
-    let b = &right[0..RECORD];
-    if equal(a, b) {
-        let to = lines::put_all(out, at, b"same");
-        return put_digest(out, to, a);
-    }
     let mut to = lines::put_all(out, at, b"apart");
     to = put_digest(out, to, a);
     put_digest(out, to, b)
+}
+
+// TEXT|TEXT
+fn compared(one: &[u8], other: &[u8], out: &mut [u8], at: usize) -> usize
+    requires { ⌜ at + 33 ≤ length (now out) ⌝ }
+    ensures { λ r. ⌜ r ≤ at + 33 ⌝ }
+{
+    let mut left = filled(UNWRITTEN);
+    let mut right = filled(UNWRITTEN);
+    let f = lexicon::write_record(one, &mut left);
+    let g = lexicon::write_record(other, &mut right);
+    let a = &left[0..RECORD];
+    let b = &right[0..RECORD];
+    if equal(a, b) {
+        return put_same(out, at, a, f, g);
+    }
+    put_apart(out, at, a, b)
 }
 
 // TEXT|!OOOVV..
@@ -245,8 +289,8 @@ fn text_end(s: &[u8]) -> usize
 }
 
 fn answer(s: &[u8], out: &mut [u8], at: usize) -> usize
-    requires { ⌜ at + 137 ≤ length (now out) ⌝ }
-    ensures { λ r. ⌜ r ≤ at + 137 ⌝ }
+    requires { ⌜ at + 147 ≤ length (now out) ⌝ }
+    ensures { λ r. ⌜ r ≤ at + 147 ⌝ }
 {
     let end = text_end(s);
     if s.len() - end < 2 {
@@ -261,8 +305,8 @@ fn answer(s: &[u8], out: &mut [u8], at: usize) -> usize
 }
 
 fn line(s: &[u8], out: &mut [u8], at: usize) -> usize
-    requires { ⌜ at + 138 ≤ length (now out) ⌝ }
-    ensures { λ r. ⌜ r ≤ at + 138 ⌝ }
+    requires { ⌜ at + 148 ≤ length (now out) ⌝ }
+    ensures { λ r. ⌜ r ≤ at + 148 ⌝ }
 {
     let to = answer(s, out, at);
     lines::put(out, to, b'\n')

@@ -196,7 +196,7 @@ impl Beside<'_> {
             return Ok(());
         }
         tally.count(RECORDS);
-        let bytes = records::written(&mut self.port, text, &Figure::of(cd), window)?;
+        let (bytes, _) = records::written(&mut self.port, text, &Figure::of(cd), window)?;
         records::read_back(&mut self.port, &bytes, window)?;
         match short(RECORD, window) {
             Some(len) => records::refused(&mut self.port, text, len, [12, 0, 0, 0], window),

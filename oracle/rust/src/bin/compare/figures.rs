@@ -1,5 +1,5 @@
-//! Figures: what a filing record tells of a diagram. Document 01's layout, the smallest numbering and sameness, written
-//! from its words and apart from the port.
+//! Figures: what a filing record tells of a diagram. Document 01's layout, the smallest numbering and sameness, and ticket
+//! K9's first of the smallest, written from their words and apart from the port.
 
 use std::cmp::Ordering;
 
@@ -128,12 +128,13 @@ impl Figure {
             figure.join(i, j, Fraction { num, den }.lowest());
         }
         // What the fields do not tell (fillers, terms not lowest) and a smaller numbering both show here.
-        (figure.renumbered(&figure.smallest()).layout() == *bytes).then_some(figure)
+        (figure.renumbered(&figure.first_smallest()).layout() == *bytes).then_some(figure)
     }
 
-    /// A numbering whose layout is the smallest. The nodes' bytes come first, so the nodes stand sorted; then come the
-    /// pairs, node by node. Of all numberings begun, those go on whose last node's pairs are the smallest.
-    pub fn smallest(&self) -> Numbering {
+    /// Of the numberings whose layout is the smallest the first, "comparing the list of old nodes in new order as numbers
+    /// from the left". The nodes' bytes come first, so the nodes stand sorted; then come the pairs, node by node. Of all
+    /// numberings begun, those go on whose last node's pairs are the smallest.
+    pub fn first_smallest(&self) -> Numbering {
         let mut sorted = self.nodes;
         sorted[..self.count].sort_unstable();
         let mut begun = vec![PLAIN];
@@ -161,20 +162,20 @@ impl Figure {
             }
             begun = going_on;
         }
-        begun[0]
+        begun.into_iter().min().unwrap()
     }
 
-    /// The smallest layout, by trying all renumberings one by one: slow beyond five nodes.
-    pub fn smallest_of_all(&self) -> [u8; RECORD] {
-        let mut least = self.layout();
+    /// The smallest layout and the first numbering that gives it, by trying all one by one: slow beyond five nodes.
+    pub fn smallest_of_all(&self) -> ([u8; RECORD], Numbering) {
+        let mut least = (self.layout(), PLAIN);
         self.try_all(&mut PLAIN.clone(), 0, &mut least);
         least
     }
 
     /// Tries all renumberings that go on from the first `place` places.
-    fn try_all(&self, numbering: &mut Numbering, place: usize, least: &mut [u8; RECORD]) {
+    fn try_all(&self, numbering: &mut Numbering, place: usize, least: &mut ([u8; RECORD], Numbering)) {
         if place == self.count {
-            *least = self.renumbered(numbering).layout().min(*least);
+            *least = (self.renumbered(numbering).layout(), *numbering).min(*least);
         }
         for later in place..self.count {
             numbering.swap(place, later);

@@ -1,6 +1,6 @@
-//! `compare pairs`: records at scale. Two spellings of a figure must get one record; a figure changed in one place another,
-//! unless it is the same renumbered; a record must be read back to its figure; a changed record must be refused, unless it
-//! is that of another figure.
+//! `compare pairs`: records at scale. Two spellings of a figure must get one record, and numberings that tell which node is
+//! which; a figure changed in one place another, unless it is the same renumbered; a record must be read back to its figure;
+//! a changed record must be refused, unless it is that of another figure.
 
 use std::process::ExitCode;
 
@@ -57,19 +57,17 @@ impl Work for Pairs {
             }
         };
         tally.count(SPELLED + figure.count);
-        let bytes = self.filed(dice, &figure, plain)?;
+        let filed = self.filed(dice, &figure, plain)?;
+        let bytes = filed.bytes;
         if let Some(odd) = spelling::short_spelling(dice, &figure, 5) {
-            let again = self.filed(dice, &figure, odd)?;
-            if again != bytes {
-                return Err(format!(
-                    "two spellings, two records: {} and {}",
-                    records::shown(&bytes),
-                    records::shown(&again)
-                ));
-            }
+            filed.same_as(&self.filed(dice, &figure, odd)?)?;
         }
-        if figure.count <= 5 && dice.one_in(16) && figure.smallest_of_all() != bytes {
-            return Err(format!("of all renumberings another has a smaller layout than {}", records::shown(&bytes)));
+        if figure.count <= 5 && dice.one_in(16) && filed.figure.smallest_of_all() != (bytes, filed.numbering) {
+            return Err(format!(
+                "of all numberings another comes before {:?}, or has a smaller layout than {}",
+                filed.numbering,
+                records::shown(&bytes)
+            ));
         }
         if figure.count > 0 {
             self.changed(dice, &figure, &bytes, tally)?;
@@ -105,17 +103,41 @@ fn count(dice: &mut Dice) -> usize {
     }
 }
 
+/// A text's figure, in the order of the text's nodes, its record and numbering.
+struct Filed {
+    figure: Figure,
+    bytes: [u8; RECORD],
+    numbering: Numbering,
+}
+
+impl Filed {
+    /// Another text of the figure must have the same record, and nodes at the same place must correspond: the renumbering
+    /// that sends each of this text's to the other's there must carry this figure onto the other.
+    fn same_as(&self, other: &Self) -> Result<(), String> {
+        if self.bytes != other.bytes {
+            let shown = [self, other].map(|filed| records::shown(&filed.bytes));
+            return Err(format!("two spellings, two records: {} and {}", shown[0], shown[1]));
+        }
+        let mut images = PLAIN;
+        for (&node, &image) in self.numbering.iter().zip(&other.numbering) {
+            images[node] = image;
+        }
+        if other.figure.renumbered(&images) != self.figure {
+            let numberings = [self.numbering, other.numbering];
+            return Err(format!("two spellings, and {numberings:?} do not carry one figure onto the other"));
+        }
+        Ok(())
+    }
+}
+
 impl Pairs {
     /// The record of a text for the figure, in the order given with it.
-    fn filed(
-        &mut self,
-        dice: &mut Dice,
-        figure: &Figure,
-        spelling: (Vec<u8>, Numbering),
-    ) -> Result<[u8; RECORD], String> {
+    fn filed(&mut self, dice: &mut Dice, figure: &Figure, spelling: (Vec<u8>, Numbering)) -> Result<Filed, String> {
         let (text, order) = spelling;
-        let written = records::written(&mut self.port, &text, &figure.renumbered(&order), dice.next() as usize);
-        written.map_err(|what| format!("\"{}\": {what}", text.escape_ascii()))
+        let figure = figure.renumbered(&order);
+        let written = records::written(&mut self.port, &text, &figure, dice.next() as usize);
+        let (bytes, numbering) = written.map_err(|what| format!("\"{}\": {what}", text.escape_ascii()))?;
+        Ok(Filed { figure, bytes, numbering })
     }
 
     fn changed(
@@ -132,7 +154,7 @@ impl Pairs {
         };
         let same = figure.same(&other);
         tally.count(if same { SAME } else { APART });
-        if same != (self.filed(dice, &other, spelling)? == *bytes) {
+        if same != (self.filed(dice, &other, spelling)?.bytes == *bytes) {
             let layouts = [figure, &other].map(|figure| records::shown(&figure.layout()));
             return Err(format!("a changed figure, the same: {same}; {} and {}", layouts[0], layouts[1]));
         }

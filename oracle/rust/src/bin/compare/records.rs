@@ -1,31 +1,30 @@
 //! The calls about records, compared with figures.rs.
 
-use miratope::diagrams::LIMIT;
-
 use crate::{
     figures::{Figure, Numbering, RECORD},
     port::{Call, Port, Want, SPARE},
 };
 
+/// A record, and the numbering that was handed out with it.
+pub type Written = ([u8; RECORD], Numbering);
+
 /// The record of an accepted text, whose figure is given in the order of the text's nodes: it must be the smallest layout,
-/// and its numbering must give it.
-pub fn written(port: &mut Port, text: &[u8], figure: &Figure, window: usize) -> Result<[u8; RECORD], String> {
+/// and its numbering the first that gives it.
+pub fn written(port: &mut Port, text: &[u8], figure: &Figure, window: usize) -> Result<Written, String> {
     port.call(Call::Record(text), RECORD + window % SPARE, window);
     if let Some(what) = port.record_departs([0, figure.count, 0, 0]) {
         return Err(format!("lexicon_write_record: {what}"));
     }
     let (bytes, numbering) = port.record();
-    if !is_renumbering(&numbering, figure.count) || figure.renumbered(&numbering).layout() != bytes {
-        return Err(format!(
-            "lexicon_write_record: the numbering {numbering:?} does not give the record {}",
-            shown(&bytes)
-        ));
-    }
-    let smallest = figure.renumbered(&figure.smallest()).layout();
+    let first = figure.first_smallest();
+    let smallest = figure.renumbered(&first).layout();
     if smallest != bytes {
         return Err(format!("lexicon_write_record: {}, {} is due", shown(&bytes), shown(&smallest)));
     }
-    Ok(bytes)
+    if numbering != first {
+        return Err(format!("lexicon_write_record: the numbering {numbering:?}, {first:?} is due"));
+    }
+    Ok((bytes, numbering))
 }
 
 /// A text whose record is refused, or is to be written into too short a buffer: both buffers must be kept.
@@ -47,11 +46,6 @@ pub fn read_back(port: &mut Port, bytes: &[u8; RECORD], window: usize) -> Result
     }
     .map_err(|what| format!("{what}; of {}", shown(bytes)))?;
     Ok(figure.is_some())
-}
-
-/// Whether each of so many nodes has one place, and past them place i has i.
-fn is_renumbering(numbering: &Numbering, count: usize) -> bool {
-    (0..count).all(|node| numbering[..count].contains(&node)) && (count..LIMIT).all(|i| numbering[i] == i)
 }
 
 /// In hexadecimal, without the zeros at the end.
