@@ -82,9 +82,7 @@ shows-once text x y a b = a .line ∙ ap (λ l. l ++ ascii "\n") (go (a .files))
     go : Files text (a .out) (a .out′) (a .filed) → lineOf (a .filed) (take (recordLength limit) (a .out′)) ≡ lineOf (b .filed) (take (recordLength limit) (b .out′))
     go (refused h e k) = line-refused (a .filed) _ e ∙ sym (line-refused (b .filed) _ (on-refused (b .files) h .0))
     go (short h s e k) = let l = a .long in absurd (omega arith)
-    go (filed h s e n w) =
-        let (bytes, same) = one-filing h (a .long) (b .long) (a .files) (b .files) in
-        ap₂ lineOf same bytes
+    go (filed h s e n w) = let (bytes, same) = one-filing h (a .long) (b .long) (a .files) (b .files) in ap₂ lineOf same bytes
 
 pub one-showing : (input : List ℕ) {x y : List ℕ} → ShowsAll input x → ShowsAll input y → x ≡ y
 one-showing input a b = answered-once shows-once a b

@@ -2,18 +2,18 @@
 -- laid behind the layout, the smallest of all numberings has the record in front, and of those that have it the first list behind. Assumes nothing.
 use mathlib.Core.List.{List, [], _∷_, _++_}
 use mathlib.Core.Logic.{inl, inr}
-use mathlib.Core.Path.{_≡_, refl, sym, ap₂, _∙_, subst, subst₂}
+use mathlib.Core.Path.{_≡_, sym, ap₂, _∙_, subst, subst₂}
 use Prim.Native.Nat.{ℕ, zero, suc, _≤_, _<_}
-use native.Mathlib.Nat.{suc-inj, suc-ne-zero, zero-lt-suc, not-suc-le-zero}
+use native.Mathlib.Nat.{suc-inj, suc-ne-zero, zero-lt-suc}
 use native.Mathlib.Omega.{arith}
 use lib.ListN.{length}
 use lib.Seq.{ext-getD}
 use Rattle.filing.specs.Bytes.{blocks, _≼_, ends, less, same}
 use Rattle.filing.specs.Diagrams.{Diagram}
-use Rattle.filing.specs.First.{Gives, First}
+use Rattle.filing.specs.First.{First}
 use Rattle.filing.specs.Numberings.{Numbering, at}
 use Rattle.filing.specs.Records.{layout, IsRecord}
-use Rattle.filing.specs.Sequences.{Agree, Before, AtMost}
+use Rattle.filing.specs.Sequences.{Agree, AtMost}
 use Rattle.filing.proofs.Bytes.{blocks-same, length-singles, singles-at}
 use Rattle.filing.proofs.Layouts.{layout-local, length-layout}
 use Rattle.filing.proofs.Numberings.{numbering-same}

@@ -91,6 +91,15 @@ one-answer {p = p} {u = u} {v = v} f g =
     let told-same : u ≡ v = f .answer ∙ ap (λ (x : Filed). told (outcome {A = ℕ} (x .answer) (x .count ∷ []) [])) same ∙ sym (g .answer) in
     (bytes, f .nodes ∙ ap (λ (x : Filed). replaced (x .answer) p (x .numbering)) same ∙ sym (g .nodes), told-same, f .returned ∙ ap (λ z. getD z 0 0) told-same ∙ sym (g .returned))
 
+-- one text, one record and one numbering, whatever the buffers were
+pub one-filing : {text a a′ b b′ p p′ q q′ u v : List ℕ} {m n : ℕ} → FilesForC text a a′ p p′ u m → FilesForC text b b′ q q′ v n → m ≡ 0 → n ≡ 0
+    → (take (recordLength limit) a′ ≡ take (recordLength limit) b′) × (p′ ≡ q′)
+one-filing f g m-0 n-0 =
+    let d = returned-0 f m-0 in
+    let e = returned-0 g n-0 in
+    let (bytes, same) = one.one-filing (d .accepted) (d .long) (e .long) (f .files) (g .files) in
+    (bytes, numbering-0 f d ∙ ap (λ (x : Filed). x .numbering) same ∙ sym (numbering-0 g e))
+
 -- two calls that return 0
 module _ (s t a a′ b b′ p p′ q q′ u v : List ℕ) (m n : ℕ) (files-s : FilesForC s a a′ p p′ u m) (files-t : FilesForC t b b′ q q′ v n) (m-0 : m ≡ 0) (n-0 : n ≡ 0) where
   abbrev pub drawn-s : Filed0 s a
