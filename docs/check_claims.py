@@ -34,7 +34,8 @@ from functools import lru_cache
 from pathlib import Path
 
 PUBLIC = ("lexicon", "geometry", "lexicon_c", "lexicon/proofs/Demand3.antt: demand-3", "lexicon/proofs/Demand3.antt: nodes-correspond",
-          "lexicon/proofs/OneAnswer.antt: one-answer", "lexicon/proofs/OneAnswer.antt: one-filing", "lexicon_c/proofs/Demand3.antt: one-filing")
+          "lexicon/proofs/OneAnswer.antt: one-answer", "lexicon/proofs/OneAnswer.antt: one-filing", "lexicon_c/proofs/Demand3.antt: demand-3",
+          "lexicon_c/proofs/Demand3.antt: nodes-correspond", "lexicon_c/proofs/Demand3.antt: one-answer", "lexicon_c/proofs/Demand3.antt: one-filing")
 PROGRAMS = ("cdlist", "cdfile", "cdlist/proofs/Whole.antt: blocks-list", "cdfile/proofs/Filings.antt: blocks-show")
 
 TOP = Path(__file__).resolve().parent.parent

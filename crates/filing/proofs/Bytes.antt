@@ -56,6 +56,9 @@ append-injective (a ∷ ts) [] h e = absurd (suc-ne-zero (length ts) h)
 append-injective (a ∷ ts) (b ∷ bs) h e =
     let r = append-injective ts bs (suc-inj h) (tail-eq-of-cons-eq e) in (ap₂ _∷_ (head-eq-of-cons-eq e) (r .0), r .1)
 
+pub parts-same {ℓ} : {A : Type ℓ} (n : ℕ) (a b : List A) → take n a ≡ take n b → drop n a ≡ drop n b → a ≡ b
+parts-same n a b front rest = sym (take-append-drop n a) ∙ ap₂ _++_ front rest ∙ take-append-drop n b
+
 -- ---- blocks
 
 -- what holds below n, and of n, holds below n + 1

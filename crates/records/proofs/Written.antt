@@ -1,14 +1,15 @@
 -- What `Written` says: the numbering handed out numbers the nodes and lays out the record; and record, numbering and buffer are one only, since a diagram has one record
 -- and of the numberings that give it one is the first. Assumes nothing.
-use mathlib.Core.List.{List, _++_}
-use mathlib.Core.Path.{_≡_, sym, ap, ap₂, _∙_, subst}
+use mathlib.Core.List.{List}
+use mathlib.Core.Path.{_≡_, sym, ap, _∙_, subst}
 use Prim.Native.Nat.{ℕ, _<_}
-use lib.ListN.{take, drop, take-append-drop}
+use lib.ListN.{take, drop}
 use lib.Seq.{getD-take}
 use Rattle.filing.specs.Diagrams.{Diagram}
 use Rattle.filing.specs.First.{First}
 use Rattle.filing.specs.Numberings.{Numbering, at}
 use Rattle.filing.specs.Records.{recordLength, layout}
+use Rattle.filing.proofs.Bytes.{parts-same}
 use Rattle.filing.proofs.Filing.{record-unique}
 use Rattle.filing.proofs.First.{first-unique}
 use Rattle.filing.proofs.Layouts.{layout-local}
@@ -31,14 +32,8 @@ module _ {N : ℕ} {d : Diagram} {a a′ p b b′ q : List ℕ} (v : Written N d
   same-bytes = record-unique (v .bytes) (w .bytes)
 
   pub same-numbering : p ≡ q
-  same-numbering =
-      sym (take-append-drop (d .size) p)
-      ∙ ap₂ _++_ (first-unique (subst (λ bs. First N d bs (take (d .size) p)) same-bytes (v .first)) (w .first)) (v .spare ∙ sym (w .spare))
-      ∙ take-append-drop (d .size) q
+  same-numbering = parts-same (d .size) p q (first-unique (subst (λ bs. First N d bs (take (d .size) p)) same-bytes (v .first)) (w .first)) (v .spare ∙ sym (w .spare))
 
   -- and one buffer afterwards, if it was one before
   pub same-buffer : a ≡ b → a′ ≡ b′
-  same-buffer e =
-      sym (take-append-drop (recordLength N) a′)
-      ∙ ap₂ _++_ same-bytes (v .rest ∙ ap (drop (recordLength N)) e ∙ sym (w .rest))
-      ∙ take-append-drop (recordLength N) b′
+  same-buffer e = parts-same (recordLength N) a′ b′ same-bytes (v .rest ∙ ap (drop (recordLength N)) e ∙ sym (w .rest))
