@@ -5,17 +5,6 @@
 
 #include "timing.h"
 
-static uint64_t lowest_terms(uint64_t num, uint64_t den)
-{
-    uint64_t a = num, b = den;
-    while (b) {
-        uint64_t rest = a % b;
-        a = b;
-        b = rest;
-    }
-    return (num / a) << 32 | den / a;
-}
-
 void read_figure(const char *text, struct figure *f)
 {
     uint64_t at[LEXICON_DIAGRAM];
@@ -28,7 +17,7 @@ void read_figure(const char *text, struct figure *f)
         f->bits[j] = at[2 * j + 1];
         for (int i = 0; i < j; i++) {
             const uint64_t *edge = at + 18 + 3 * (j * (j + 1) / 2 + i);
-            f->pair[i][j] = f->pair[j][i] = edge[0] ? lowest_terms(edge[1], edge[2]) : UNJOINED;
+            f->pair[i][j] = f->pair[j][i] = edge[0] ? edge[1] << 32 | edge[2] : UNJOINED;
         }
     }
 }

@@ -17,7 +17,7 @@ struct figure {
     uint64_t pair[LEXICON_LIMIT][LEXICON_LIMIT];
 };
 
-// By `lexicon_read`: ends the program if that refuses the text.
+// By `lexicon_read`, which has fractions in lowest terms: ends the program if that refuses the text.
 void read_figure(const char *text, struct figure *f);
 
 // How node a stands to node b by kind, then by value bits: below 0, 0 or above.

@@ -1,5 +1,5 @@
-// Reading a text beside the unchanged Rust (oracle/rust), twice: `rust_read` lays out the same numbers and tells as much,
-// `rust_parse` is `Cd::parse` alone.
+// Reading a text beside the unchanged Rust (oracle/rust), twice: `rust_read` lays out the same numbers, its fractions as typed,
+// and tells as much; `rust_parse` is `Cd::parse` alone.
 #define _POSIX_C_SOURCE 200809L // getline
 #include <stdio.h>
 #include <stdlib.h>
@@ -48,6 +48,23 @@ static void run(const void *input, uint64_t turns)
     kept = sum;
 }
 
+static uint64_t common_divisor(uint64_t a, uint64_t b)
+{
+    return b ? common_divisor(b, a % b) : a;
+}
+
+// Ticket K2: "stored edges are compared after reducing the Rust's." What is timed does without.
+static void reduce_edges(uint64_t *diagram)
+{
+    for (uint64_t *edge = diagram + 18; edge < diagram + LEXICON_DIAGRAM; edge += 3) {
+        if (!edge[0])
+            continue;
+        uint64_t divisor = common_divisor(edge[1], edge[2]);
+        edge[1] /= divisor;
+        edge[2] /= divisor;
+    }
+}
+
 // Every number, and those that a refusal must leave as they were.
 static void check(const char *at, size_t len)
 {
@@ -57,8 +74,11 @@ static void check(const char *at, size_t len)
     memset(ours, 0xff, sizeof ours);
     memset(rusts, 0xff, sizeof rusts);
     size_t number = lexicon_read(text, len, ours, LEXICON_DIAGRAM, answer);
-    if (number != rust_read(text, len, rusts, LEXICON_DIAGRAM, rust_answer) || memcmp(answer, rust_answer, sizeof answer) ||
-        memcmp(ours, rusts, sizeof ours) || rust_parse(text, len) != (number ? 256 + number : answer[1]))
+    size_t rust_number = rust_read(text, len, rusts, LEXICON_DIAGRAM, rust_answer);
+    if (rust_number == 0)
+        reduce_edges(rusts);
+    if (number != rust_number || memcmp(answer, rust_answer, sizeof answer) || memcmp(ours, rusts, sizeof ours) ||
+        rust_parse(text, len) != (number ? 256 + number : answer[1]))
         fail("reading", at, "the Rust reads it otherwise");
 }
 

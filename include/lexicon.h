@@ -20,7 +20,7 @@
  *   4       the text ends too early                            position: the text's length
  *   5       a literal or a part of an edge that is no number   position: its last byte; for `()` the `)`, for an empty part the slash before it
  *   6       a byte that fits nothing, or nan                   position: the byte, or nan's last letter
- *   7       an edge that is none                               num, den, position: the edge's last byte
+ *   7       an edge that is none                               num and den as typed, position: the edge's last byte
  *   8       a pair that is joined twice                        both nodes, in the order of the second edge
  *   9       a literal outside the range                        position: the literal's last byte
  *   10      a tenth node                                       position: its first byte
@@ -59,7 +59,7 @@ enum {
  *
  * Node i has out[2 * i], its kind (1 unringed, 2 ringed, 3 snub), and out[2 * i + 1], the 64 bits of its length, 0 if unringed; places past the last node
  * hold 1 and 0. The pair of the nodes i <= j (i = j is a loop) has, from out[18 + 3 * (j * (j + 1) / 2 + i)] on, its edge's rank in the order stored, from
- * 1, its num and its den; three zeros if nothing joins them. */
+ * 1, its num and its den in lowest terms; three zeros if nothing joins them. `x6/2o` has 3 and 1, as `x3o` has. */
 size_t lexicon_read(const uint8_t *text, size_t text_len, uint64_t *out, size_t out_len, size_t answer[LEXICON_ANSWER]);
 
 /* The record of a text's diagram, 370 bytes. Tells the nodes. numbering[i] is the node that the record has in place i; past the last node it holds i. Of all
@@ -72,8 +72,8 @@ size_t lexicon_read(const uint8_t *text, size_t text_len, uint64_t *out, size_t 
  * chain about 25 us, nine alike that nothing joins about 7 ms. */
 size_t lexicon_write_record(const uint8_t *text, size_t text_len, uint8_t *out, size_t out_len, size_t numbering[LEXICON_LIMIT], size_t answer[LEXICON_ANSWER]);
 
-/* The diagram that has these bytes for its record, in the record's own numbering, laid out as for lexicon_read; the edges i < j rank by rising j, then by
- * rising i. Tells the nodes and the edges.
+/* The diagram that has these bytes for its record, in the record's own numbering, laid out as for lexicon_read, in lowest terms as there; the edges i < j rank
+ * by rising j, then by rising i. Tells the nodes and the edges.
  * Refuses with 13, 14 and 12. */
 size_t lexicon_read_record(const uint8_t *bytes, size_t bytes_len, uint64_t *out, size_t out_len, size_t answer[LEXICON_ANSWER]);
 

@@ -7,6 +7,7 @@ LETTERS = "osvxqfhkuwFeQdVUAXB"
 EDGES = ["3", "4", "5", "6", "7", "8", "12", "5/2", "5/3", "5/4", "7/2", "7/3", "8/3", "10/3", "3/2", "6/2", "1/5/3",
          "1000000007"]
 TWOS = ["2", "4/2", "6/3", "02"]
+LARGEST = 2 ** 32 - 1
 SIGNS = ["", "", "", "+", "-"]
 
 
@@ -30,7 +31,7 @@ def literal(dice):
     return dice.pick(SIGNS) + dice.several(DIGITS, 1, 9) + after + dice.pick(["", "", dice.pick("eE") + power])
 
 
-def accepted(dice, least=3, most=60):
+def accepted(dice, least=3, most=60, edges=EDGES):
     """A text of about `least` to `most` bytes that reading accepts unless a length is outside the port's range: every
     reference exists, and an edge that would repeat is a two."""
     length = least + dice.below(most - least + 1)
@@ -46,7 +47,7 @@ def accepted(dice, least=3, most=60):
         edge = ""
         if previous is not None and dice.below(5):
             pair = frozenset((previous, here))
-            edge = dice.pick(TWOS if pair in pairs else EDGES)
+            edge = dice.pick(TWOS if pair in pairs else edges)
             if edge not in TWOS:
                 pairs.add(pair)
         token = dice.pick(["", "", "", " ", "\t"]) + edge + dice.pick(["", "", "", " "]) + node
@@ -55,6 +56,29 @@ def accepted(dice, least=3, most=60):
             missing = count - made + (not node.startswith("*"))
             return (text + "o" * missing).encode()
         text, previous = text + token, here
+
+
+def multiplied(dice):
+    """The terms of a fraction, twos among them, both times the same number, at times the largest that 32 bits allow."""
+    num = 2 + dice.below(2 ** (1 + dice.below(16)))
+    den = 1 + dice.below(num - 1)
+    most = LARGEST // num
+    times = dice.pick([2 + dice.below(9), 1 + dice.below(most), most])
+    return num * times, den * times
+
+
+def unreduced(dice, least=20, most=90):
+    """An accepted text with fractions that are not in lowest terms."""
+    edges = [dice.pick(["", "", "0", "7/"]) + "{}/{}".format(*multiplied(dice)) for _ in range(6)]
+    while b"/" not in (text := accepted(dice, least, most, edges)):
+        pass
+    return text
+
+
+def upside_down(dice):
+    """Terms with a common divisor that are no edge's: 7 has them as typed."""
+    num, den = multiplied(dice)
+    return f"x{dice.pick(['', '3o', '6/2o'])}{den}/{dice.pick([num, num, den])}o".encode()
 
 
 def damaged(dice, text):
@@ -101,7 +125,7 @@ def raw(dice):
 
 
 def hurt(dice, least=3, most=60):
-    text = accepted(dice, least, most)
+    text = dice.pick([accepted, accepted, unreduced])(dice, least, most)
     for _ in range(1 + dice.below(3)):
         text = damaged(dice, text)
     return text
@@ -112,4 +136,4 @@ def long(dice):
 
 
 def any_text(dice):
-    return dice.pick([soup, number, run, queue, crowd, raw, accepted, hurt, hurt, long])(dice)
+    return dice.pick([soup, number, run, queue, crowd, raw, accepted, hurt, hurt, long, unreduced, upside_down])(dice)

@@ -4,13 +4,14 @@
 """
 
 import itertools
+import math
 import sys
 
 import chance
 import model
 
 SHORT = "xs320/*a-() \t_"
-MOST = 65000
+MOST = 65500
 
 
 def main(which="corpus"):
@@ -27,6 +28,8 @@ def corpus():
     texts = [text.encode() for text in listed] + beyond_ascii() + whole
     texts += [chance.damaged(dice, dice.pick(whole)) for _ in range(1200)]
     texts += [part(dice) for part in (chance.soup, chance.number, chance.run, chance.queue, chance.crowd) for _ in range(90)]
+    texts += [text.encode() for text in [*unreduced(), *unreduced_beside()]]
+    texts += [chance.unreduced(dice, 40, 75) for _ in range(16)] + [chance.upside_down(dice) for _ in range(10)]
 
     texts = list(dict.fromkeys(texts))
     assert not any(b"\n" in text for text in texts)
@@ -179,6 +182,44 @@ def lengths(dice):
                 "(1.5", "1.5)", "(1.5))", "((1.5))", "(1.5)(2.5)", "(0.1)(0.2)(0.3)", "(1e1)(1e-1)", "(1f)", "(1e5.)",
                 "(1.e)", "(1 5)", "(1)e5", "(\t)"]
     yield from ("(" + chance.literal(dice) + ")" for _ in range(150))
+
+
+def unreduced():
+    """Fractions that ticket K2 divides by their greatest common divisor, and some of large terms that have none."""
+    yield from (f"x{num}/{den}o" for num in range(4, 13) for den in range(2, num) if math.gcd(num, den) > 1)
+    for num, den in [(3, 1), (3, 2), (4, 1), (4, 3), (5, 1), (5, 2), (5, 3), (5, 4), (7, 2), (12, 5),
+                     (65535, 65534), (65537, 2)]:
+        times = chance.LARGEST // num                                       # the largest that 32 bits allow
+        yield from [f"x{num * times}/{den * times}o", f"x{num * times - 1}/{den * times}o"]
+    # Every power of two as the divisor, and every divisor of 2^32 - 1 = 3 × 5 × 17 × 257 × 65537.
+    yield from (f"o{2 ** 32 - 2 ** k}/{2 ** k}x" for k in range(1, 31))
+    yield from ["x3221225472/2147483648o", "x3758096384/1610612736o", "x2147483650/2147483648o"]
+    for count in range(1, 5):
+        for primes in itertools.combinations([3, 5, 17, 257, 65537], count):
+            yield f"x{chance.LARGEST}/{math.prod(primes)}o"
+    # Primes, and products of two.
+    yield from ["x4294967291/4294967279o", "x4294967291/2147483647o", "x4294967279/2147483629o", "x4294967291/65521o",
+                "x4294967279/2o", "x4292870399/65521o", "x4292870399/65519o", "x4292870399/4291428937o",
+                "x4294967290/4294967285o", "x4294967258/2147483587o"]
+    # Neighbouring Fibonacci numbers take Euclid's algorithm the most steps.
+    a, b = 2, 3
+    while b <= chance.LARGEST:
+        times = chance.LARGEST // b
+        yield f"x{b * times}/{a * times}o"
+        a, b = b, a + b
+
+
+def unreduced_beside():
+    """Such fractions beside other parts, zeros, spaces, references, loops and twos; repeated; refused, as typed."""
+    return ["x5/3221225472/1073741824o", "x0/6/2o", "x4294967295/6/2o", "x6/2/1o", "x6/3/2o", "x12/6/4o", "x4294967296/6/2o",
+            "x6/2/o", "x006/002o", "x06/2o", "x6/02o", "x000000000012/00000000004o", "x6/2 o", "x 6/2 o", "x6/2\to",
+            "x6/2(1.5)", "s6/2s", "x8/2o6/2o", "x10/4o10/2o", "x6/2o10/4o9/3o *b12/9o", "x6/2o8/2o10/2*a", "*c6/2*a xoo",
+            "x6/2*-a o", "x6/2*a", "o6/4*a", "x6/2*a6/4*a", "x3*a6/2*a", "x3o6/2*a", "x6/2o3*a", "x6/2o12/4*-b", "x6/4o3/2*a",
+            "x6/2o4/2*a", "x4/2o6/2*a", "x4294967294/2147483647*z", "x2147483648/1073741824*z", "x4294967292/2147483646*z",
+            "x6/2*z", "x4/2*z6/2*z", "x3221225472/1073741824*-z", "x4294967294/2147483647*a6/2*a",
+            "x4/6o", "x6/6o", "x6/0o", "x0/6o", "x2/2o", "x2/4o", "x3/6/9o", "x6/4/6o", "x004/06 o", "x3o4/6o", "x6/2o4/6o",
+            "x4/6*z", "x4/6", "x2147483648/3221225472o", "x1431655765/4294967295o", "x4294967295/4294967295o",
+            "x2147483648/2147483648o", "x4294967294/0o"]
 
 
 def swept():

@@ -64,6 +64,7 @@ def cosine(a):
 # A matrix is the list of its columns: row r of column c is [c][r].
 
 def matrix(diagram):
+    """K2: "both quotients round the same fraction": here it is the reduced one, in the Rust the one typed."""
     nodes, edges = diagram
     columns = unjoined(len(nodes))
     for a, b, (num, den) in edges:

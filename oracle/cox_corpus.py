@@ -26,7 +26,8 @@ def corpus():
     lines = {}
     for line, expected in itertools.chain(
             families(), no_family(), document_01(), published(), cosines(dice), quotients(dice), dense(dice), edge_of_15(), columns_of_15(),
-            infinite_groups(), lengths(dice), infinite_lengths(), loops_and_lone_nodes(), small_reflections(), by_chance(dice), refused_texts()):
+            infinite_groups(), lengths(dice), infinite_lengths(), loops_and_lone_nodes(), small_reflections(), by_chance(dice), refused_texts(),
+            unreduced(dice)):
         lines[line] = max(lines.get(line, ""), expected, key=len)
     assert not any(b"\n" in line for line in lines)
     assert sum(len(line) + 1 for line in lines) <= MOST
@@ -35,7 +36,7 @@ def corpus():
 
 def stress(count, seed=1):
     dice = chance.Dice(seed)
-    texts = (dice.pick([chance.accepted, chance.hurt, dense_text, dense_text, mild_text])(dice) for _ in range(count))
+    texts = (dice.pick([chance.accepted, chance.hurt, chance.unreduced, dense_text, dense_text, mild_text])(dice) for _ in range(count))
     return dict(of(OF_TEXTS, texts))
 
 
@@ -159,8 +160,8 @@ def dense_text(dice, least=3, most=9):
         nodes = [dice.pick([dice.pick(list(model.LETTERS.values())), ("x", dice.pick([1.5, -1.0, 0.1, -0.0, 1e9, 12345.678]))])
                  for _ in range(count)]
         edges = [(a, b, dice.pick(WIDE)) for a, b in itertools.combinations(range(count), 2) if dice.below(8)]
-        if has_mirrors(nodes, edges):
-            return figures.respelled(dice, (nodes, edges))
+        if has_mirrors(nodes, edges) and (text := figures.respelled(dice, (nodes, edges))):
+            return text
 
 
 def has_mirrors(nodes, edges):
@@ -307,3 +308,27 @@ def refused_texts():
             7: ["x1o", "x3/3o", "x4o4o1x"], 8: ["x3o3*a", "x4o4o4*b", "x3*a3*a"], 9: ["(1e23)", "x4o4(1234567890123456)", "(1e0001)"],
             10: ["o" * 10, "x4o4o" + "x" * 7], 11: ["x3*c", "x4o4o3*-d", "*a3*a", "x2*z3*z"]}.items():
         yield from of(OF_TEXTS, texts, f"no {number} ")
+
+
+def unreduced(dice):
+    """K2: "Matrix bits don't change, since both quotients round the same fraction": a text has the answers of the one in lowest terms."""
+    for text, lowest in {
+            "x6/2o": "x3o", "x9/3o": "x3o", "x8/2o6/2o": "x4o3o", "x10/4o10/2o": "x5/2o5o", "x6/2o10/4o": "x3o5/2o", "x14/6o": "x7/3o",
+            "x3221225472/1073741824o": "x3o", "x4294967295/1431655765o": "x3o", "x4294967295/2863311530o": "x3/2o",
+            "x4294967295/1717986918o3o": "x5/2o3o", "x7/4294967292/1840700268o": "x7/3o", "x4237481062/2618907323o": "x63245986/39088169o",
+            "x4294956175/2654428896o": "x75025/46368o", "x4292870399/4291428937o": "x65519/65497o",
+            "x2147483650/2147483648o": "x1073741825/1073741824o", "x4294964900/432350o": "x9934o", "x4294960110/432306o": "x9935o",
+            "x3973835236/400000o": "x993458809/100000o", "x3973835238/400000o": "x1986917619/200000o", "x8/2o8/2o": "x4o4o",
+            "x6/2o9/3o12/4*a": "x3o3o3*a", "x6/2*a8/2o": "x4o", "*b6/2*a xo": "x3o", "x4294967294/2147483647o6/2x": "x o3x",
+            "(-1.5)6/2(2)": "(-1.5)3(2)", "(inf)6/2o": "(inf)3o"}.items():
+        yield from as_of(OF_TEXTS, text, lowest)
+    for _ in range(40):
+        num, den = chance.multiplied(dice)
+        yield from as_of("mn", f"x{num}/{den}o", "x{}/{}o".format(*figures.lowest(num, den)))
+    yield from of(OF_TEXTS, ["x4/6o"], "no 7 4 6 3")
+    yield from of(OF_TEXTS, ["x8/2o8/2o2147483648/3221225472o"], "no 7 2147483648 3221225472 29")
+
+
+def as_of(kinds, text, other):
+    """A line of each kind for the text, whose answer is the other text's."""
+    return ((line, cox.answer(line[:2] + other.encode())) for line, _ in of(kinds, [text]))

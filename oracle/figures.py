@@ -61,9 +61,12 @@ def stroll(dice, nodes, edges):
 
 
 def respelled(dice, figure):
-    """Another text for the figure, the shortest of three."""
-    text = min((walked(dice, *figure) for _ in range(3)), key=len)
-    return text.encode() if len(text) <= model.MOST_BYTES else respelled(dice, figure)
+    """Another text for the figure, the shortest of three; None if time and again it is too long to be read."""
+    for _ in range(100):
+        text = min((walked(dice, *figure) for _ in range(3)), key=len)
+        if len(text) <= model.MOST_BYTES:
+            return text.encode()
+    return None
 
 
 def walked(dice, nodes, edges):

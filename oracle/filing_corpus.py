@@ -12,7 +12,7 @@ import figures
 import filing
 import model
 
-MOST = 65000
+MOST = 65500
 SAME, SAME_BY_CHANCE, SAME_LARGE, NEAR, NEAR_LARGE, SWITCHED = 150, 16, 70, 150, 54, 35
 MISPLACED, MISPLACED_LARGE, RELABELLED, RELABELLED_LARGE, DAMAGED = 20, 15, 25, 45, 223
 X = ("x", 1.0)
@@ -30,7 +30,7 @@ def corpus():
     dice = chance.Dice(3)
     lines = [*document_01(), *texts(dice), *shared_doubles(dice), *same(dice), *near(dice), *graphs(dice), *trees(dice),
              *buffers(), *lengths(), *fields_out_of_range(), *fields_in_range(), *misplaced(dice), *relabelled(dice), *damaged(dice),
-             *symmetric_texts(dice)]
+             *symmetric_texts(dice), *unreduced()]
     lines = {line if isinstance(line, bytes) else line.encode(): expected for line, expected in lines}
     assert not any(b"\n" in line or line.count(b"|") > 1 for line in lines)
     assert sum(len(line) + 1 for line in lines) <= MOST
@@ -130,6 +130,16 @@ def shared_doubles(dice):
                 break
         assert n * den != num * d
         yield f"x{num}/{den}o3o|o3o{n}/{d}x", "apart"
+
+
+def unreduced():
+    """Fractions not in lowest terms, of 32 bits, and neighbours among them that differ."""
+    for line in ["x6/2o3o|o3o3x", "x10/4o9/3o|o3o5/2x", "x4294967295/2863311530o6/2o|o3o3/2x", "x2971215073/1836311903o|o02971215073/1836311903x",
+                 "x3672623806/2269806340o|o1836311903/1134903170x", "x3221225472/1073741824o4o|o4o4294967295/1431655765x",
+                 "x4294967292/2147483646o3o|o3o x", "x6/2*a8/2o|o4x"]:
+        yield line, "same"
+    for line in ["x6/2o|x6/4o", "x4294967294/4294967292o|x4294967295/4294967294o", "x4294967294/1431655765o|x3o"]:
+        yield line, "apart"
 
 
 def large(dice):

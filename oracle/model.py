@@ -1,4 +1,4 @@
-"""The reading of a text, from document 01's words alone: the oracle where the Rust has no answer.
+"""Document 01's reading of a text and ticket K2's edges, from their words alone: the oracle where the Rust has no answer.
 
 `answer(text)` gives the line that oracle/rust's `reading` prints. Python's floats are IEEE binary64.
 """
@@ -167,6 +167,7 @@ def part(text, start, end):
 
 
 def stored(count, queue):
+    """The edges kept. 7 was tested before, on the numbers as typed."""
     edges, pairs = [], set()
     for place, (first, other, (num, den)) in enumerate(queue):
         if num == 2 * den:
@@ -177,7 +178,9 @@ def stored(count, queue):
         if frozenset((a, b)) in pairs:
             raise Refusal(8, a, b)
         pairs.add(frozenset((a, b)))
-        edges.append((a, b, (num, den)))
+        # K2: "The edge kept after reading should carry num and den divided by their greatest common divisor"
+        divisor = math.gcd(num, den)
+        edges.append((a, b, (num // divisor, den // divisor)))
     return edges
 
 

@@ -196,6 +196,29 @@ static void accepted_texts(void)
     expect_accepted_text(text("ooooooooo"), 9, 0, false);
 }
 
+// The edge between the nodes 0 and 1 of the diagram that was read last.
+static void check_edge(uint64_t num, uint64_t den)
+{
+    const uint64_t *edge = (const uint64_t *)out + 21;
+    check(edge[0] == 1 && edge[1] == num && edge[2] == den, "its edge is another, or not in lowest terms");
+}
+
+static void lowest_terms(void)
+{
+    static const struct {
+        const char *text;
+        uint64_t num, den;
+    } typed[] = {
+        {"x3o", 3, 1}, {"x6/2o", 3, 1}, {"x006/002o", 3, 1}, {"x5/10/4o", 5, 2}, {"x12/10o", 6, 5},
+        {"x4294967295/1431655765o", 3, 1}, {"x3221225472/2147483648o", 3, 2}, {"x3672623806/2269806340o", 1836311903, 1134903170},
+        {"x4294967295/4294967294o", 4294967295, 4294967294},
+    };
+    for (size_t i = 0; i < LEN(typed); i++) {
+        expect(&read_text, text(typed[i].text), LEXICON_DIAGRAM, ANSWER(0, 2, 1, 1));
+        check_edge(typed[i].num, typed[i].den);
+    }
+}
+
 static void refused_texts(void)
 {
     static const struct {
@@ -205,7 +228,8 @@ static void refused_texts(void)
         {"x(1", {3, 3}}, {"x3(1", {3, 4}}, {"(", {3, 1}}, {"x3", {4, 2}}, {"x ", {4, 2}}, {"*", {4, 1}}, {"*-", {4, 2}},
         {"()", {5, 1}}, {"(1x)", {5, 2}}, {"x3/o", {5, 2}}, {"x3//2o", {5, 2}}, {"x4294967296o", {5, 10}},
         {"(nan)", {6, 3}}, {"(-NaN)", {6, 4}}, {"x3_", {6, 2}}, {"x3\to", {6, 2}},
-        {"x1o", {7, 1, 1, 1}}, {"x4294967294/4294967295o", {7, 4294967294, 4294967295, 21}}, {"x3o3*a", {8, 1, 0}}, {"x3*a3*a", {8, 0, 0}},
+        {"x1o", {7, 1, 1, 1}}, {"x4/6o", {7, 4, 6, 3}}, {"x2147483648/3221225472o", {7, 2147483648, 3221225472, 21}},
+        {"x4294967294/4294967295o", {7, 4294967294, 4294967295, 21}}, {"x3o3*a", {8, 1, 0}}, {"x3o6/2*a", {8, 1, 0}}, {"x3*a3*a", {8, 0, 0}},
         {"(1e23)", {9, 4}}, {"oooooooooo", {10, 9}}, {"ooooooooo(1)", {10, 9}}, {"x3*c", {11, 0}}, {"x2*c3o3*c", {11, 1}},
     };
     for (size_t i = 0; i < LEN(refused); i++)
@@ -311,6 +335,7 @@ static void accepted_records(void)
     expect_answer(&read_record, bytes(record, sizeof record), ANSWER(0, 3, 2));
     record_of("(-inf)6/2(-0)", record);
     expect_answer(&read_record, bytes(record, sizeof record), ANSWER(0, 2, 1));
+    check_edge(3, 1);
 }
 
 // The record of two nodes, with each byte that is fixed given each other value.
@@ -419,6 +444,7 @@ int main(void)
     if (!out || !again)
         return 1;
     accepted_texts();
+    lowest_terms();
     refused_texts();
     refused_geometry();
     lengths();

@@ -148,7 +148,8 @@ static void print_same(struct article *articles, size_t count)
 
 int main(int argc, char **argv)
 {
-    static const char *const samples[] = {"x3o4o", "x4o3o", "o4o3x", "x5/2o5s3*c", "x3o", "x6/2o", "x4o4o", "(inf)3o", "*a", "x1o", "x3o3*a", "x3_", ""};
+    static const char *const samples[] = {"x3o4o", "x4o3o", "o4o3x", "x5/2o5s3*c", "x3o", "x6/2o", "x4o4o", "(inf)3o", "*a", "x1o", "x4/6o", "x3o3*a",
+                                          "x3_", ""};
     const char *const *texts = argc > 1 ? (const char *const *)argv + 1 : samples;
     size_t count = argc > 1 ? (size_t)argc - 1 : sizeof samples / sizeof *samples, accepted = 0;
     struct article *articles = calloc(count, sizeof *articles);

@@ -117,7 +117,7 @@ impl Cd {
     }
 
     /// The stored edges with the nodes that they join, in the order in which they were stored,
-    /// loops included.
+    /// loops included; their fractions are in lowest terms.
     #[must_use]
     pub fn edges(&self) -> Vec<StoredEdge> {
         self.diagram.edges.clone()
@@ -285,7 +285,7 @@ impl From<Cd> for Cox {
 }
 
 impl fmt::Display for Cd {
-    /// Writes the nodes and edges as miratope-core does.
+    /// Writes the nodes and edges as miratope-core does, the fractions in lowest terms.
     fn fmt(&self, f: &mut fmt::Formatter<'_>) -> fmt::Result {
         self.diagram.fmt(f)
     }

@@ -74,8 +74,8 @@ impl fmt::Display for Node {
 
 /// The value of an edge, a fraction: an edge x stands for an angle of π / x between two mirrors.
 ///
-/// It holds the numbers that were typed, and is compared by them: `6/2` and `3` are two edges. A
-/// [`Record`](crate::Record) has edges in lowest terms.
+/// In a diagram it is in lowest terms, whatever was typed: `x6/2o` has the edge of `x3o`. It is plain
+/// data and is compared by its numbers, so that `Edge { num: 6, den: 2 }` is another.
 #[derive(Clone, Copy, Debug, PartialEq, Eq, Hash)]
 pub struct Edge {
     /// The numerator.
@@ -135,7 +135,8 @@ pub struct Diagram {
     /// The nodes, in the order read.
     pub nodes: Vec<Node>,
 
-    /// The edges, in the order stored. An edge of value 2 is not stored, as it joins nothing.
+    /// The edges, in the order stored and in lowest terms. An edge of value 2 is not stored, as it
+    /// joins nothing.
     pub edges: Vec<StoredEdge>,
 }
 

@@ -38,9 +38,9 @@
 //! |---|---|
 //! | `CdBuilder`: `new`, `build` | [`Cd::parse`] |
 //! | `CdResult`; `CdError`, its cases and words | the same, with more cases; what miratope-core panics on, such as `(`, `x ` and `x3*c`, is refused |
-//! | `Cd`: `parse`, `dim`, `node_count`, `edge_count`, `node_iter`, `nodes`, `minimal`, `cox`; its `Display` | the same |
+//! | `Cd`: `parse`, `dim`, `node_count`, `edge_count`, `node_iter`, `nodes`, `minimal`, `cox`; its `Display` | the same, with the fractions of `Display` in lowest terms |
 //! | `Cd::node_vector` | the same, as a `Vec` |
-//! | `Cd::raw_nodes`, `Cd::raw_edges` | [`Cd::diagram`]: its `nodes` and its `edges`, the lower node first |
+//! | `Cd::raw_nodes`, `Cd::raw_edges` | [`Cd::diagram`]: its `nodes` and its `edges`, the lower node first, fractions in lowest terms |
 //! | `Cd::generator`, `Cd::circumradius` | the same, with a [`CdError`] for `None` and for infinite lengths; the point is a [`Generator`] |
 //! | `Cd::new`, `Default` of a `Cd`, `Cd::add_node`, `Cd::add_edge` | none: a diagram comes from a text or from a record. The text `*a` has no nodes |
 //! | `Node`: its cases, `value`, `is_ringed`; its `Display` | the same; `==` is by bits |

@@ -33,11 +33,25 @@ fn loops_are_stored_and_twos_are_dropped() -> CdResult<()> {
 #[test]
 fn the_last_two_parts_of_an_edge_count() -> CdResult<()> {
     assert_eq!(edges("x5/3/2o")?, [(0, 1, 3, 2)]);
-    assert_eq!(edges("x6/2o")?, [(0, 1, 6, 2)]);
+    assert_eq!(edges("x5/6/4o")?, [(0, 1, 3, 2)]);
     assert_eq!(
         edges("x4294967295/4294967294o")?,
         [(0, 1, u32::MAX, u32::MAX - 1)]
     );
+    Ok(())
+}
+
+#[test]
+fn edges_are_in_lowest_terms() -> CdResult<()> {
+    assert_eq!(edges("x6/2o")?, [(0, 1, 3, 1)]);
+    assert_eq!(edges("x10/4o8/6*b")?, [(0, 1, 5, 2), (1, 1, 4, 3)]);
+    for text in ["x6/2o", "x006/2o", "x4294967295/1431655765o"] {
+        let (typed, lowest) = (Cd::parse(text)?, Cd::parse("x3o")?);
+        assert_eq!(typed.edges(), lowest.edges());
+        assert_eq!(typed.diagram(), lowest.diagram());
+        assert_eq!(typed.to_string(), lowest.to_string());
+        assert_eq!(typed.text(), text);
+    }
     Ok(())
 }
 
@@ -64,7 +78,8 @@ fn nodes_and_diagrams_are_compared_by_kind_and_bits() -> CdResult<()> {
     let mut diagrams: HashSet<Diagram> = HashSet::new();
     for text in texts {
         let diagram = Cd::parse(text)?.diagram().clone();
-        assert_eq!(diagrams.insert(diagram), text != "(1)", "{text}"); // which is x
+        let new = !["(1)", "x6/2o"].contains(&text); // which are x and x3o
+        assert_eq!(diagrams.insert(diagram), new, "{text}");
     }
     assert_ne!(Node::Ringed(0.0), Node::Ringed(-0.0));
     assert_ne!(Node::Ringed(0.0), Node::Snub(0.0));

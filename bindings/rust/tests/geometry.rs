@@ -24,6 +24,7 @@ fn a_matrix_has_the_edges_of_its_diagram() -> CdResult<()> {
         }
     }
     assert_eq!(cox, Cox::parse("x5/2o3o")?);
+    assert_eq!(cox, Cox::parse("x10/4o6/2o")?);
     assert_eq!(cox, Cox::from(cd));
     assert_ne!(cox, Cox::parse("x5/2o3o3o")?);
     Ok(())

@@ -38,6 +38,15 @@ fn loops_play_no_part_and_signs_of_zero_do() {
     assert_ne!(record("s"), record("x"));
 }
 
+/// In the record's order of nodes a text has the diagram that its record is read back to.
+#[test]
+fn is_read_back_to_the_diagram_of_the_text() {
+    for text in ["o6/2x", "o4294967295/1431655765x", "o3x"] {
+        assert_eq!(record(text).diagram(), *cd(text).diagram());
+        assert_eq!(record(text), record("x3o"));
+    }
+}
+
 /// The bytes that the specification gives for `x4o`.
 #[test]
 fn has_the_bytes_of_the_specification() {
@@ -51,7 +60,7 @@ fn has_the_bytes_of_the_specification() {
 
 #[test]
 fn the_numbering_gives_the_record() {
-    let cd = cd("q3o x4s *b5*c");
+    let cd = cd("q6/2o x4s *b10/4*c");
     let (record, numbering) = cd.record_and_numbering();
     let diagram = record.diagram();
     for (place, &node) in numbering.iter().enumerate() {

@@ -82,6 +82,21 @@ fn texts_of_the_specification() {
     assert_eq!(refused("x1o"), CdError::InvalidEdge { num, den, pos });
 }
 
+/// An edge that is kept is in lowest terms; one that is refused is not.
+#[test]
+fn an_edge_is_shown_as_typed() {
+    for (text, num, den, pos) in [
+        ("x4/6o", 4, 6, 3),
+        ("x3o6/6o", 6, 6, 5),
+        ("x2147483648/3221225472o", 1 << 31, 3 << 30, 21),
+    ] {
+        let refusal = Cd::parse(text).unwrap_err();
+        assert_eq!(refusal, CdError::InvalidEdge { num, den, pos });
+        let words = format!("invalid edge {num}/{den} at position {pos}");
+        assert_eq!(refusal.to_string(), words);
+    }
+}
+
 #[test]
 fn records() {
     let length = Record::from_bytes(&[0; 369]).unwrap_err();

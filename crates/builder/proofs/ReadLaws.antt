@@ -10,7 +10,7 @@ use Rattle.scan.specs.Spaces.{skip}
 use Rattle.node.specs.Nodes.{nodeAt}
 use Rattle.parse.specs.Text.{nodeIn, taken, textFrom}
 use Rattle.parse.specs.Text as text
-use Rattle.parse.specs.Reading.{Refused, joined, high, readFrom}
+use Rattle.parse.specs.Reading.{Refused, joined, high, kept, readFrom}
 use Rattle.scan.proofs.Rest.{drop-at}
 
 module _ (s : List ℕ) (i : ℕ) where
@@ -36,7 +36,7 @@ module _ (s : List ℕ) (at : ℕ) where
   unfolding readFrom
   not-low i h e k = rw (le-ltb 255 (length s) h, ← e, lt-ltb i (length s) k)
 
-  pub low : (i : ℕ) → length s ≤ 255 → i ≡ high s 0 → length s ≤ i → readFrom s at ≡ joined (textFrom s at)
+  pub low : (i : ℕ) → length s ≤ 255 → i ≡ high s 0 → length s ≤ i → readFrom s at ≡ kept (joined (textFrom s at))
   unfolding readFrom
   low i h e k = rw (le-ltb 255 (length s) h, ← e, le-ltb i (length s) k)
 

@@ -1,4 +1,5 @@
--- The laws of the arrays that hold a diagram, and of tests that decide.
+-- The laws of the arrays that hold a diagram, of tests that decide, and of edges in smallest numbers.
 pub mod Arrays
 pub mod Stored
 pub mod Decided
+pub mod LowestTerms

@@ -5,7 +5,8 @@ ghost use Prim.Native.Nat.{_<_, _≤_};
 ghost use lib.ListN.{take};
 ghost use Rattle.cd.specs.Arrays.{padded};
 ghost use Rattle.cd.specs.Letters.{letterOf};
-ghost use Rattle.cd.specs.Edges.{isEdge, isTwo};
+ghost use Rattle.filing.specs.Fractions.{gcd as the-gcd};
+ghost use Rattle.cd.specs.Edges.{isEdge, isTwo, reduced as the-reduced};
 ghost use Rattle.cd.specs.References.{indexOf, endsOf};
 ghost use Rattle.cd.specs.Refusals.{numberOf};
 ghost use Rattle.cd.specs.Diagrams.{limit, pairLimit, placeOf};
@@ -190,6 +191,35 @@ pub fn eq_two(e: Edge) -> bool
     ensures { λ r. ⌜ r ≡ isTwo e ⌝ }
 {
     e.num as u64 == 2 * (e.den as u64)
+}
+
+// The greatest common divisor, by Euclid's algorithm.
+pub fn gcd(a: u32, b: u32) -> u32
+    ensures { λ r. ⌜ r ≡ the-gcd a b ⌝ }
+{
+    let mut x = a;
+    let mut y = b;
+    while y != 0 {
+        let rest = x % y;
+        x = y;
+        y = rest;
+    }
+    x
+}
+
+// The edge in smallest numbers. (Most edges are whole numbers, which have nothing to divide.)
+pub fn reduced(e: Edge) -> Edge
+    requires { ⌜ 0 < e .den ⌝ }
+    ensures { λ r. ⌜ r ≡ the-reduced e ⌝ }
+{
+    if e.den == 1 {
+        return e;
+    }
+    let g = gcd(e.num, e.den);
+    Edge {
+        num: e.num / g,
+        den: e.den / g,
+    }
 }
 
 // Where a reference leads.

@@ -4,7 +4,8 @@ use mathlib.Core.Logic.{_↔_}
 use mathlib.Core.Path.{_≡_, refl, sym, ap, _∙_}
 use Prim.Native.Nat.{ℕ, zero, suc, _*_, _%_, _≤_, _<_, _∣_}
 use native.Mathlib.Nat.{le-refl, zero-lt-suc, not-suc-le-zero, mul-zero, mul-comm, mul-assoc, mul-sub, mul-pos, eq-of-mul-eq-mul-left, lt-of-mul-lt-mul-left}
-use native.Mathlib.Nat.{mod-lt, mod-def, div-le-self, mul-div-mul-left, mul-div-cancel', dvd-refl, dvd-zero, dvd-mod-iff, pos-of-dvd-of-pos}
+use native.Mathlib.Nat.{mod-lt, mod-def, div-one, div-le-self, mul-div-mul-left, mul-div-cancel', dvd-refl, dvd-zero, dvd-mod-iff, pos-of-dvd-of-pos}
+use native.Mathlib.Decide.{ℕ-discrete}
 use native.Mathlib.Omega.{arith}
 use Rattle.filing.specs.Fractions.{Fraction, SameFraction, gcdIn, gcd, lowest}
 
@@ -104,6 +105,29 @@ module _ (x : Fraction) where
   pub lowest-is-same : SameFraction (lowest x) x
   lowest-is-same = omega (arith, ap (λ z. z * lowest x .den) lowest-num, ap (λ z. lowest x .num * z) lowest-den)
 
+-- a whole number has nothing to divide
+pub lowest-whole : (n : ℕ) → lowest (record { num = n; den = 1 }) ≡ record { num = n; den = 1 }
+unfolding lowest gcd
+lowest-whole n = λ i. record { num = div-one n i; den = 1 }
+
+-- a den that stays has nothing to divide
+pub lowest-undivided : (x : Fraction) → zero < x .den → lowest x .den ≡ x .den → lowest x ≡ x
+lowest-undivided x h e =
+    let one : divisor x ≡ 1 = eq-of-mul-eq-mul-left (x .den) h (divisor x) 1 (omega (arith, lowest-den x, ap (λ z. divisor x * z) e)) in
+    let num : lowest x .num ≡ x .num = omega (arith, lowest-num x, ap (λ z. z * lowest x .num) one) in
+    λ i. record { num = num i; den = e i }
+
+-- what is worth 2 remains so, and nothing else becomes so
+pub lowest-two : (x : Fraction) → (lowest x .num ≡ 2 * lowest x .den) ↔ (x .num ≡ 2 * x .den)
+lowest-two x = (to, from (ℕ-discrete (x .den) zero))
+  where
+    to : lowest x .num ≡ 2 * lowest x .den → x .num ≡ 2 * x .den
+    to e = omega (arith, lowest-num x, lowest-den x, ap (λ z. divisor x * z) e)
+
+    from : Dec (x .den ≡ zero) → x .num ≡ 2 * x .den → lowest x .num ≡ 2 * lowest x .den
+    from (yes z) e = omega (arith, lowest-num-le x, lowest-den-le x)
+    from (no z) e = eq-of-mul-eq-mul-left (divisor x) (divisor-pos x (omega arith)) _ _ (omega (arith, lowest-num x, lowest-den x))
+
 -- ---- equal fractions
 
 -- a/b and c/d with equal cross products: d g = gcd (d a, d b) = gcd (b c, b d) = b h, where g = gcd (a, b) and h = gcd (c, d)
@@ -137,3 +161,7 @@ lowest-same x y hx hy = (to, from)
 
     from : lowest x ≡ lowest y → SameFraction x y
     from e = cross-back (divisor x) (divisor y) (lowest x .num) (lowest x .den) (lowest-num x) (lowest-den x) (rw e (lowest-num y)) (rw e (lowest-den y))
+
+-- lowest terms have nothing to divide
+pub lowest-twice : (x : Fraction) → zero < x .den → lowest (lowest x) ≡ lowest x
+lowest-twice x h = lowest-same (lowest x) x (lowest-positive x h) h .0 (lowest-is-same x)

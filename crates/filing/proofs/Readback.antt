@@ -17,7 +17,7 @@ use Rattle.filing.specs.Readable.{Readable, numberAt, nodeAt, pairPlace,
 use Rattle.filing.specs.Records.{nodeLength, nodeBytes, pairBytes, layout, IsRecord}
 use Rattle.filing.proofs.Bytes.{length-bytes, value-bytes}
 use Rattle.filing.proofs.Filing.{carried, layout-same}
-use Rattle.filing.proofs.Gcd.{lowest-is-same}
+use Rattle.filing.proofs.Gcd.{lowest-is-same, lowest-twice}
 use Rattle.filing.proofs.Layouts.{lowest-edge}
 use Rattle.filing.proofs.Numberings.{identity, compose, differ}
 use Rattle.filing.proofs.Places.{Placed, placed-read, placed-whole, placed-left, placed-right, placed-in, placed-at, node-placed, pair-placed}
@@ -76,6 +76,11 @@ module _ (N : ℕ) {d : Diagram} (w : IsDiagram N d) {p : ℕ → ℕ} (np : Num
           ap (fractionAt (layout N d p)) (pairPlace-comm N i j) ∙ read-pair j i (omega arith) hi
           ∙ ap lowest (w .symmetric (p j) (p i) (np .within j hj) (np .within i hi) (differ np hj hi (omega arith)))
 
+  read-lowest : (i j : ℕ) → i < spelled N (layout N d p) .size → j < spelled N (layout N d p) .size → i ≢ j → lowest (spelled N (layout N d p) .edge i j) ≡ spelled N (layout N d p) .edge i j
+  unfolding spelled layout
+  read-lowest i j hi hj ne =
+      subst (λ x. lowest x ≡ x) (sym (read-edge i j hi hj ne)) (lowest-twice (d .edge (p i) (p j)) (w .edges (p i) (p j) (np .within i hi) (np .within j hj) (differ np hi hj ne) .den-pos))
+
   pub read-is-diagram : IsDiagram N (spelled N (layout N d p))
   unfolding spelled layout
   read-is-diagram = record {
@@ -112,6 +117,11 @@ module _ (N : ℕ) {d : Diagram} (w : IsDiagram N d) {p : ℕ → ℕ} (np : Num
 
 pub spelled-laid : (N : ℕ) (l : List ℕ) → Readable N l → layout N (spelled N l) (λ i. i) ≡ l
 spelled-laid N l (d, w, r) = subst (λ z. layout N (spelled N z) (λ i. i) ≡ z) (sym (r .laid)) (read-layout N w (r .valid) (identity (d .size)))
+
+-- bytes that can be read spell lowest terms
+pub readable-lowest : (N : ℕ) (l : List ℕ) → Readable N l → (i j : ℕ) → i < spelled N l .size → j < spelled N l .size → i ≢ j → lowest (spelled N l .edge i j) ≡ spelled N l .edge i j
+readable-lowest N l (d, w, r) =
+    subst (λ z. (i j : ℕ) → i < spelled N z .size → j < spelled N z .size → i ≢ j → lowest (spelled N z .edge i j) ≡ spelled N z .edge i j) (sym (r .laid)) (read-lowest N w (r .valid))
 
 -- BYTES ARE A RECORD EXACTLY WHEN THE DIAGRAM THAT THEY SPELL IS ONE AND HAS THEM FOR ITS RECORD
 pub is-record-iff : (N : ℕ) (l : List ℕ) → Readable N l ↔ (IsDiagram N (spelled N l) × IsRecord N (spelled N l) l)

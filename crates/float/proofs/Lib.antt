@@ -1,7 +1,9 @@
--- The laws that the functions' proofs share, and the theorem on the root.
+-- The laws that the functions' proofs share, and the theorems on literals, quotients and the root.
 mod Table
 mod Powers
+mod Exactly
 pub mod RoundedOnce
+pub mod Quotients
 mod Steps
 mod Halves
 mod Nearest

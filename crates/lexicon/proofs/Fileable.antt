@@ -1,26 +1,29 @@
 -- The diagram of every accepted text can be filed: its values are doubles and no nan, so their patterns are those of numbers, and what joins two nodes is
--- a valid edge, or 2/1. Assumes nothing.
+-- a valid edge in smallest numbers, or 2/1. Assumes nothing.
 use Prim.Native.Nat.{ℕ, zero, suc, _^_, _<_}
-use mathlib.Core.Bool.{true, false, not, and-eq-true-iff, true≢false}
-use mathlib.Core.List.{List, [], _∷_}
-use mathlib.Core.Path.{_≡_, refl, sym, ap, _∙_}
+use mathlib.Core.Bool.{true, false}
+use mathlib.Core.List.{List, [], _∷_, map}
+use mathlib.Core.Path.{_≡_, refl, ap, _∙_}
 use native.Mathlib.Nat.{not-suc-le-zero, le-of-suc-le-suc}
 use native.Mathlib.Omega.{arith}
-use borrow.Author.Tests.{ltb-true}
-use lib.Dec.{T, ltb, eqb}
+use lib.Dec.{T}
 use lib.Ieee.{Float, binary64, fits, isNan, toBits, nanBits}
 use lib.Ieee.Bits.{ofBits-toBits, toBits-lt, nanBits-is}
 use lib.ListN.{length, getD}
 use Rattle.cd.specs.Diagrams.{Stored, joins, limit}
-use Rattle.cd.specs.Edges.{isEdge}
+use Rattle.cd.specs.Edges.{isEdge, fraction, reduced}
 use Rattle.cd.specs.declared.Edge.{Edge}
 use Rattle.cd.specs.declared.Node.{Node}
 use Rattle.cd.specs.declared.Node.the-variants.{Unringed}
+use Rattle.cd.proofs.LowestTerms.{den-positive, den-below}
 use Rattle.filing.specs.Diagrams.{IsNode, IsEdge, IsDiagram}
-use Rattle.parse.specs.Reading.{Accepted, read}
+use Rattle.filing.proofs.Gcd.{lowest-whole, lowest-twice}
+use Rattle.filing.proofs.Layouts.{lowest-edge}
+use Rattle.parse.specs.Reading.{Accepted, keptEdge, read}
+use Rattle.parse.proofs.KeptEdges.{AsTyped, as-typed}
 use Rattle.parse.proofs.Outcomes.{accepted-few}
-use Rattle.tables.specs.Diagrams.{filed, fraction, joint, diagram}
-use Rattle.tables.specs.Tables.{IsNumber}
+use Rattle.tables.specs.Diagrams.{filed, joint, diagram}
+use Rattle.tables.specs.Tables.{IsNumber, IsPair, IsKept}
 use Rattle.tables.proofs.Joints.{two-edge, joint-symmetric}
 use Rattle.lexicon.specs.All.{All, nil, cons}
 use Rattle.lexicon.proofs.SoundNodes.{picked}
@@ -62,33 +65,42 @@ sound-number (snub f h) = h
 -- ---- edges
 
 -- den is above 0 and below num
-valid-edge : (e : Edge) → e .num < 2 ^ 32 → isEdge (e .num) (e .den) ≡ true → IsEdge (fraction e)
-unfolding isEdge
-valid-edge e f h =
-    let k = and-eq-true-iff (ltb 1 (e .num)) _ .0 h .1 in
-    let l = and-eq-true-iff (not (eqb (e .den) 0)) (ltb (e .den) (e .num)) .0 k in
-    record { fits = f; den-pos = positive (e .den) (l .0); above-one = ltb-true (e .den) (e .num) (l .1) }
-  where
-    positive : (d : ℕ) → not (eqb d 0) ≡ true → zero < d
-    positive zero g = absurd (true≢false (sym g))
-    positive (suc d) g = omega arith
+pub valid-edge : (e : Edge) → e .num < 2 ^ 32 → isEdge (e .num) (e .den) ≡ true → IsEdge (fraction e)
+valid-edge e f h = record { fits = f; den-pos = den-positive e h; above-one = den-below e h }
 
-joint-edge : {n : ℕ} (es : List Stored) (i j : ℕ) → All (SoundEdge n) es → IsEdge (joint es i j)
-unfolding joint
-joint-edge [] i j nil = two-edge
-joint-edge (s ∷ es) i j (cons h hs) = picked IsEdge (joins i j s) (valid-edge (s .edge) (h .num-fits) (h .valid)) (joint-edge es i j hs)
+kept-pair : (e : Edge) → IsEdge (fraction e) → IsPair (fraction (reduced e))
+unfolding reduced
+kept-pair e h = (lowest-edge h, lowest-twice (fraction e) (h .den-pos))
+
+joint-pair : {n : ℕ} (ts : List Stored) (i j : ℕ) → All (SoundEdge n) ts → IsPair (joint (map keptEdge ts) i j)
+unfolding joint joins
+joint-pair [] i j nil = (two-edge, lowest-whole 2)
+joint-pair (s ∷ ts) i j (cons h hs) = picked IsPair (joins i j s) (kept-pair (s .edge) (valid-edge (s .edge) (h .num-fits) (h .valid))) (joint-pair ts i j hs)
 
 -- ---- accepted texts
 
 module _ (s : List ℕ) (ns : List Node) (es : List Stored) (h : read s ≡ Accepted ns es) where
+  t : AsTyped s ns es
+  t = as-typed s ns es h
+
+  nodes-sound : All Sound ns
+  nodes-sound = sound-nodes s ns (t .edges) (t .read)
+
+  pair : (i j : ℕ) → IsPair (joint es i j)
+  pair i j = rw (t .kept) (joint-pair (t .edges) i j (sound-edges s ns (t .edges) (t .read)))
+
   pub accepted-diagram : IsDiagram limit (diagram ns es)
   unfolding diagram
   accepted-diagram = record {
     few = accepted-few s ns es h;
-    nodes = λ i l. sound-node (all-at ns i (sound-nodes s ns es h) l);
-    edges = λ i j l m ne. joint-edge es i j (sound-edges s ns es h);
+    nodes = λ i l. sound-node (all-at ns i nodes-sound l);
+    edges = λ i j l m ne. pair i j .0;
     symmetric = λ i j l m ne. joint-symmetric es i j;
   }
 
+  pub accepted-kept : IsKept limit (diagram ns es)
+  unfolding diagram
+  accepted-kept = record { is = accepted-diagram; lowest-terms = λ i j l m ne. pair i j .1 }
+
   pub accepted-numbers : (i : ℕ) → i < length ns → IsNumber (getD ns i Unringed)
-  accepted-numbers i l = sound-number (all-at ns i (sound-nodes s ns es h) l)
+  accepted-numbers i l = sound-number (all-at ns i nodes-sound l)

@@ -1,6 +1,6 @@
 pub mod Answers
 mod SoundNodes
-mod Sound
+pub mod Sound
 pub mod Fileable
 pub mod OneAnswer
 pub mod Demand3

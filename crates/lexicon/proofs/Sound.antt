@@ -1,5 +1,5 @@
--- What holds of the diagram of every accepted text: a node's value is a double and no nan, and an edge is valid, of 32-bit numbers, and between nodes that
--- exist. By induction on the turns of reading, then on the queue: a run refuses a part of 2 ^ 32 or more as it closes, so no edge that waits has one, and
+-- What holds of the diagram of every accepted text, the edges as typed: a node's value is a double and no nan, and an edge is valid, of 32-bit numbers, and
+-- between nodes that exist. By induction on the turns of reading, then on the queue: a run refuses a part of 2 ^ 32 or more as it closes, so no edge that waits has one, and
 -- joining stores only edges that waited, at indices below the number of nodes. Assumes nothing.
 use Prim.Native.Nat.{ℕ, zero, suc, _+_, _-_, _^_, _<_}
 use mathlib.Core.Bool.{true, and-eq-true-iff}
@@ -37,7 +37,7 @@ use Rattle.parse.specs.Text.{Seen, start, Outcome, On, onto, Joint, Without, Wi
 use Rattle.parse.specs.Text as text
 use Rattle.parse.specs.Joining.{Joined, Edges, joinOne, joinAll}
 use Rattle.parse.specs.Joining as joining
-use Rattle.parse.specs.Reading.{Reading, Accepted, withEdges, joined, high, read}
+use Rattle.parse.specs.Reading.{Reading, Accepted, withEdges, joined, high, typed}
 use Rattle.parse.specs.Reading as reading
 use Rattle.lexicon.specs.All.{All, nil, cons}
 use Rattle.lexicon.proofs.SoundNodes.{picked, tested, SoundRead, node-sound}
@@ -227,16 +227,16 @@ unfolding joined
 joined-sound (on {st} h) = with-edges-sound (h .nodes) (join-all-sound (length (st .nodes)) (st .queue) 0 [] (h .queue) nil)
 joined-sound refused = refused
 
-read-sound : (s : List ℕ) → SoundReading (read s)
-unfolding read
-read-sound s = picked SoundReading (ltb 255 (length s)) refused (picked SoundReading (ltb (high s 0) (length s)) refused (joined-sound (text-fine s 0)))
+typed-sound : (s : List ℕ) → SoundReading (typed s)
+unfolding typed
+typed-sound s = picked SoundReading (ltb 255 (length s)) refused (picked SoundReading (ltb (high s 0) (length s)) refused (joined-sound (text-fine s 0)))
 
 both-sound : {ns : List Node} {es : List Stored} → SoundReading (Accepted ns es) → All Sound ns × All (SoundEdge (length ns)) es
 both-sound (accepted h k) = (h, k)
 
--- every node of an accepted text is sound, and so is every stored edge
-pub sound-nodes : (s : List ℕ) (ns : List Node) (es : List Stored) → read s ≡ Accepted ns es → All Sound ns
-sound-nodes s ns es e = both-sound (rw e at (read-sound s)) .0
+-- every node of an accepted text is sound, and so is every stored edge as typed
+pub sound-nodes : (s : List ℕ) (ns : List Node) (es : List Stored) → typed s ≡ Accepted ns es → All Sound ns
+sound-nodes s ns es e = both-sound (rw e at (typed-sound s)) .0
 
-pub sound-edges : (s : List ℕ) (ns : List Node) (es : List Stored) → read s ≡ Accepted ns es → All (SoundEdge (length ns)) es
-sound-edges s ns es e = both-sound (rw e at (read-sound s)) .1
+pub sound-edges : (s : List ℕ) (ns : List Node) (es : List Stored) → typed s ≡ Accepted ns es → All (SoundEdge (length ns)) es
+sound-edges s ns es e = both-sound (rw e at (typed-sound s)) .1

@@ -1,4 +1,4 @@
--- Document 01's "Texts to try": antt computes each reading, its line, the tests of its minimal mark and the layouts of its record. `minimal-by` is handed each
+-- Document 01's "Texts to try" and K2's: antt computes each reading, its line, the tests of its minimal mark and the layouts of its record. `minimal-by` is handed each
 -- node's next step towards a ringed one, `not-minimal-by` nodes that no stored edge leaves, and one of them. Assumes nothing.
 use Prim.Native.Nat.{ℕ, _-_}
 use Prim.Native.String.{String}
@@ -13,7 +13,7 @@ use lib.Text.{eqt}
 use Rattle.float.specs.Decimal.{decimalOf}
 use Rattle.float.specs.Pick.{pick}
 use Rattle.cd.specs.Diagrams.{Stored, isJoined}
-use Rattle.cd.specs.Edges.{isEdge, isTwo}
+use Rattle.cd.specs.Edges.{isEdge, isTwo, reduced}
 use Rattle.cd.specs.Letters.{letterOf}
 use Rattle.cd.specs.Minimal.{isRinged, Minimal, Decides}
 use Rattle.cd.specs.References.{endsOf}
@@ -30,7 +30,7 @@ use Rattle.length.specs.Literals.{literalOf}
 use Rattle.node.specs.Nodes.{nodeAt}
 use Rattle.parse.specs.Text.{textFrom}
 use Rattle.parse.specs.Joining.{joinAll}
-use Rattle.parse.specs.Reading.{Accepted, Refused, read}
+use Rattle.parse.specs.Reading.{Accepted, Refused, kept, read}
 use Rattle.tables.specs.Diagrams.{diagram}
 use Rattle.lexicon.specs.All.{All, nil, cons}
 use Rattle.lexicon.specs.Answers.{answerOf, numeral}
@@ -56,7 +56,7 @@ refused-right t h fields line = record { reading = ap shown h ∙ ap no fields; 
 -- ---- the list
 
 pub texts-right : All RightEntry texts
-unfolding texts read textFrom joinAll nodeAt literalOf edgeAt skip isDigit isSpace ascii letterOf isEdge isTwo endsOf ofBits decimalOf mul numberOf answerOf numeral isRinged isJoined every leads diagram layout noGreater
+unfolding texts read kept reduced textFrom joinAll nodeAt literalOf edgeAt skip isDigit isSpace ascii letterOf isEdge isTwo endsOf ofBits decimalOf mul numberOf answerOf numeral isRinged isJoined every leads diagram layout noGreater
 texts-right =
     cons (refused-right "" refl refl refl) (
     cons (accepted-right "*a" refl (minimal-by (λ i. i) refl) refl (only-layout (identity 0) refl (omega arith))) (
@@ -83,7 +83,8 @@ texts-right =
     cons (accepted-right "x4o3o" refl (minimal-by (λ i. i - 1) refl) refl tt) (
     cons (accepted-right "x3*a" refl (minimal-by (λ i. i) refl) refl tt) (
     cons (refused-right "x1o" refl refl refl) (
-    cons (refused-right "x3o3*a" refl refl refl) nil)))))))))))))))))))))))))
+    cons (refused-right "x3o3*a" refl refl refl) (
+    cons (refused-right "x4/6o" refl refl refl) nil))))))))))))))))))))))))))
 
 -- ---- what the list tells of a text: of x4o, `text-right "x4o" refl` under `unfolding told texts`
 

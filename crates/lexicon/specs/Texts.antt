@@ -1,5 +1,5 @@
 -- Document 01, "Texts to try", as one list: the entries marked "Proved" and the "Others", in the order of the paper, then the texts of `cdlist`'s example
--- that are not among them. proofs/TextsRight.antt proves each.
+-- that are not among them, then a text of K2, document 02. proofs/TextsRight.antt proves each.
 use Prim.Native.Nat.{ℕ}
 use Prim.Native.String.{String}
 use mathlib.Core.Bool.{Bool, true, false}
@@ -115,8 +115,8 @@ texts =
     -- "Others: `x4o` and `o4x` file as" `joined` says
     filed "x4o" (x ∷ o ∷ []) (edge 0 1 4 1 ∷ []) true "ok 2 1 1" (joined 0x04) ∷
     filed "o4x" (o ∷ x ∷ []) (edge 0 1 4 1 ∷ []) true "ok 2 1 1" (joined 0x04) ∷
-    -- "`x6/2o` files as `x3o`"
-    filed "x6/2o" (x ∷ o ∷ []) (edge 0 1 6 2 ∷ []) true "ok 2 1 1" (joined 0x03) ∷
+    -- "`x6/2o` files as `x3o`"; K2: its edge is kept as 3
+    filed "x6/2o" (x ∷ o ∷ []) (edge 0 1 3 1 ∷ []) true "ok 2 1 1" (joined 0x03) ∷
     filed "x3o" (x ∷ o ∷ []) (edge 0 1 3 1 ∷ []) true "ok 2 1 1" (joined 0x03) ∷
     -- "`(0)` and `(-0)` differ": by the sign, the first bit of the value
     filed "(0)" (Ringed (whole 0) ∷ []) [] true "ok 1 0 1" (alone 0x00) ∷
@@ -126,4 +126,6 @@ texts =
     accepted "x3*a" (x ∷ []) (edge 0 0 3 1 ∷ []) true "ok 1 1 1" ∷
     refused "x1o" (7 ∷ 1 ∷ 1 ∷ 1 ∷ []) "no 7 1 1 1" ∷
     refused "x3o3*a" (8 ∷ 1 ∷ 0 ∷ []) "no 8 1 0" ∷
+    -- K2: "Refusal 7 still shows the numbers as typed."
+    refused "x4/6o" (7 ∷ 4 ∷ 6 ∷ 3 ∷ []) "no 7 4 6 3" ∷
     []

@@ -1,4 +1,5 @@
--- The laws of reading: the loop over the text, and the queue.
+-- The laws of reading: the loop over the text, the queue, and the edges kept.
 mod JoinLaws
+pub mod KeptEdges
 mod Turns
 pub mod Outcomes

@@ -1,9 +1,9 @@
 -- What holds of every text: an accepted one has at most `limit` nodes, and was read to its end, so that the turns allowed never run out. By induction on the
 -- turns; each reads a byte. Assumes nothing.
-use Prim.Native.Nat.{ℕ, zero, suc, _+_, _≤_, _<_}
+use Prim.Native.Nat.{ℕ, zero, suc, _+_, _≤_}
 use mathlib.Core.Bool.{Bool, true, false}
 use mathlib.Core.List.{List, [], _∷_, _++_}
-use mathlib.Core.Path.{_≡_, refl, sym, ap, _∙_}
+use mathlib.Core.Path.{_≡_, refl, sym}
 use native.Mathlib.Nat.{le-trans}
 use native.Mathlib.Omega.{arith}
 use borrow.Author.Tests.{leb-false, ltb-true, ltb-false}
@@ -13,9 +13,7 @@ use Rattle.float.specs.Pick.{pick}
 use Rattle.cd.specs.Diagrams.{Stored, limit}
 use Rattle.cd.specs.declared.CdError.{CdError}
 use Rattle.cd.specs.declared.CdError.the-variants.{TooManyNodes}
-use Rattle.cd.specs.declared.Edge.{Edge}
 use Rattle.cd.specs.declared.Node.{Node}
-use Rattle.cd.specs.declared.NodeRef.{NodeRef}
 use Rattle.cd.specs.declared.NodeRef.the-variants.{Absolute}
 use Rattle.scan.specs.Spaces.{skip}
 use Rattle.scan.specs.Edges.{edgeAt}
@@ -27,7 +25,7 @@ use Rattle.node.specs.Nodes.{nodeAt}
 use Rattle.parse.specs.Text.{Seen, start, Outcome, On, Refused, onto, Joint, Without, With, queued, taken, nodeIn, afterEdge, turn, turns, textFrom}
 use Rattle.parse.specs.Joining.{Joined, joinAll}
 use Rattle.parse.specs.Joining as joining
-use Rattle.parse.specs.Reading.{Reading, Accepted, withEdges, joined, high, readFrom, read}
+use Rattle.parse.specs.Reading.{Reading, Accepted, withEdges, joined, high, kept, read}
 use Rattle.parse.specs.Reading as reading
 use Rattle.node.specs.declared.NodeRead.{NodeRead}
 use Rattle.node.specs.declared.NodeRead.the-variants as node
@@ -123,9 +121,14 @@ few-picked : (t : Bool) {x y : Reading} → Few x → Few y → Few (pick t x y)
 few-picked true f g = f
 few-picked false f g = g
 
+few-kept : {x : Reading} → Few x → Few (kept x)
+unfolding kept
+few-kept (accepted h) = accepted h
+few-kept refused = refused
+
 few-read : (s : List ℕ) → Few (read s)
 unfolding read
-few-read s = few-picked (ltb 255 (length s)) refused (few-picked (ltb (high s 0) (length s)) refused (few-joined (text-fine s 0 (omega arith))))
+few-read s = few-kept (few-picked (ltb 255 (length s)) refused (few-picked (ltb (high s 0) (length s)) refused (few-joined (text-fine s 0 (omega arith)))))
 
 few-nodes : {ns : List Node} {es : List Stored} → Few (Accepted ns es) → length ns ≤ limit
 few-nodes (accepted h) = h

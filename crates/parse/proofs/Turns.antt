@@ -1,19 +1,17 @@
 -- The loop that reads a text, in the terms of its locals: what is read from here on gives what the whole text gives (`Kept` before a node, `After` behind
 -- one). Each turn reads a byte, so the turns allowed, at first the length of the text, never run out. Assumes nothing.
 use Prim.Native.Nat.{ℕ, zero, suc, _+_, _*_, _≤_, _<_}
-use mathlib.Core.Bool.{Bool, true, false, not, _&&_, true≢false}
 use mathlib.Core.List.{List, [], _∷_, _++_, map, map-append}
 use mathlib.Core.Path.{_≡_, refl, sym, ap, _∙_}
 use native.Mathlib.Numerals.{add-one}
 use native.Mathlib.Omega.{arith}
-use borrow.Author.Tests.{lt-ltb, le-ltb, le-leb, lt-leb, ltb-true}
-use lib.Dec.{ltb, leb, eqb}
-use lib.ListN.{length, getD, take, drop, set, replicate, length-map, length-set}
+use borrow.Author.Tests.{lt-ltb, le-ltb, le-leb, lt-leb}
+use lib.Dec.{ltb}
+use lib.ListN.{length, take, drop, set, length-map, length-set}
 use lib.Seq.{length-take-le, take-suc-set}
 use Rattle.float.specs.Pick.{pick}
 use Rattle.cd.specs.Arrays.{padded, triangle}
 use Rattle.cd.specs.Diagrams.{Stored, between, limit, place, cdOf}
-use Rattle.cd.specs.Edges.{isEdge}
 use Rattle.cd.specs.declared.CdError.{CdError}
 use Rattle.cd.specs.declared.CdError.the-variants.{TooManyNodes}
 use Rattle.cd.specs.declared.Edge.{Edge}
@@ -24,23 +22,27 @@ use Rattle.cd.specs.declared.NodeRef.{NodeRef}
 use Rattle.cd.specs.declared.NodeRef.the-variants.{Absolute}
 use Rattle.cd.specs.declared.Place.{Place}
 use Rattle.cd.proofs.Arrays.{length-padded, set-padded}
+use Rattle.cd.proofs.LowestTerms.{reduced-num-positive}
 use Rattle.scan.specs.Spaces.{skip}
 use Rattle.scan.specs.Edges.{edgeAt}
+use Rattle.scan.specs.Kept.{kept as keptRead}
 use Rattle.scan.specs.declared.EdgeRead.{EdgeRead}
 use Rattle.scan.specs.declared.EdgeRead.the-variants as edge
 use Rattle.scan.proofs.Places.{edge-next, edge-valid}
+use Rattle.scan.proofs.KeptLaws.{kept-none, kept-refused, kept-read}
 use Rattle.node.specs.Nodes.{nodeAt}
 use Rattle.parse.specs.Text.{Seen, Outcome, On, Refused, onto, Joint, Without, With, queued, taken, nodeIn, afterEdge, turn, turns, textFrom}
 use Rattle.node.proofs.Ahead.{node-ahead, reference-ahead}
 use Rattle.parse.specs.Joining.{joinAll}
 use Rattle.parse.specs.Joining as joining
-use Rattle.parse.specs.Reading.{answer, joined, withEdges}
+use Rattle.parse.specs.Reading.{answer, joined, kept, withEdges}
 use Rattle.parse.specs.Reading as gives
 use Rattle.parse.specs.declared.Answer.the-variants.{Accepted}
 use Rattle.parse.specs.declared.Read.{Read}
 use Rattle.parse.specs.declared.Queue.{Queue}
 use Rattle.node.specs.declared.NodeRead.{NodeRead}
 use Rattle.node.specs.declared.NodeRead.the-variants as node
+use Rattle.parse.proofs.KeptEdges.{keptRef, keptJoint, queued-kept, reading-kept}
 
 -- ---- what the locals stand for
 
@@ -50,15 +52,17 @@ held nodes count = map (λ (p : Place). p .node) (take count nodes)
 abbrev pub waits : Queue → List EdgeRef
 waits q = take (q .count) (q .at)
 
-abbrev pub seen : List Place → ℕ → Queue → NodeRef → Seen
-seen nodes count q prev = record { nodes = held nodes count; queue = waits q; prev = prev }
-
 -- an edge whose num is 0 is none
 unfoldable pub joint : Edge → Joint
 joint e = pick (ltb 0 (e .num)) (With e) Without
 
+-- what is read of the text: the queue as typed
+abbrev pub read-of : List Place → ℕ → List EdgeRef → NodeRef → Seen
+read-of nodes count typed prev = record { nodes = held nodes count; queue = typed; prev = prev }
+
 -- ---- before a node
 
+-- the edges that wait, and the one read last, are those typed in smallest numbers
 pub record Kept (s : List ℕ) (start : ℕ) (nodes : List Place) (count : ℕ) (q : Queue) (at : ℕ) (prev : NodeRef) (e : Edge) : Type 0 where
   pub places : nodes ≡ padded (place Unringed) limit (take count nodes)
   pub few : count ≤ limit
@@ -66,26 +70,45 @@ pub record Kept (s : List ℕ) (start : ℕ) (nodes : List Place) (count : ℕ) 
   pub room : 2 * q .count ≤ at
   pub spare : 0 < e .num → 2 * q .count + 1 ≤ at
   pub upto : at ≤ length s
+  pub typed : List EdgeRef
+  pub waiting : waits q ≡ map keptRef typed
+  pub edge : Joint
+  pub last : joint e ≡ keptJoint edge
   pub left : ℕ
   pub enough : length s ≤ left + at
-  pub going : onto (nodeIn s at (joint e) (seen nodes count q prev)) (turns left s) ≡ textFrom s start
+  pub going : onto (nodeIn s at edge (read-of nodes count typed prev)) (turns left s) ≡ textFrom s start
 
 pub kept-start : (s : List ℕ) (start : ℕ) (nodes : List Place) (slots : List EdgeRef) → start ≤ length s → nodes ≡ padded (place Unringed) limit [] → length slots ≡ 128
     → Kept s start nodes 0 (record { at = slots; count = 0 }) start (Absolute 0) (record { num = 0; den = 0 })
 unfolding textFrom joint
 kept-start s start nodes slots h p l =
-    record { places = p; few = omega arith; slots = l; room = omega arith; spare = λ (z : 0 < 0). omega arith; upto = h; left = length s; enough = omega arith; going = refl }
+    record {
+      places = p;
+      few = omega arith;
+      slots = l;
+      room = omega arith;
+      spare = λ (z : 0 < 0). omega arith;
+      upto = h;
+      typed = [];
+      waiting = refl;
+      edge = Without;
+      last = refl;
+      left = length s;
+      enough = omega arith;
+      going = refl;
+    }
 
 -- ---- a node or a reference was read, and a node was stored
 
-pub record Found (s : List ℕ) (start at : ℕ) (st : Seen) (e : Edge) (nodes : List Place) (count : ℕ) (this : NodeRef) (next : ℕ) : Type 0 where
-  pub places : nodes ≡ padded (place Unringed) limit (take count nodes)
-  pub few : count ≤ limit
+pub record Found {s : List ℕ} {start : ℕ} {nodes : List Place} {count : ℕ} {q : Queue} {at : ℕ} {prev : NodeRef} {e : Edge} (k : Kept s start nodes count q at prev e)
+    (nodes′ : List Place) (count′ : ℕ) (this : NodeRef) (next : ℕ) : Type 0 where
+  pub places : nodes′ ≡ padded (place Unringed) limit (take count′ nodes′)
+  pub few : count′ ≤ limit
   pub ahead : at < next
   pub upto : next ≤ length s
   pub left : ℕ
   pub enough : length s < left + next
-  pub turned : turns left s next (record { nodes = held nodes count; queue = queued (joint e) st this; prev = this }) ≡ textFrom s start
+  pub turned : turns left s next (read-of nodes′ count′ (queued (k .edge) (read-of nodes count (k .typed) prev) this) this) ≡ textFrom s start
 
 -- a list in the first places of an array, and one element more
 take-set : {A : Type 0} (l : List A) (c : ℕ) (v : A) → c < length l → take (c + 1) (set l c v) ≡ take c l ++ (v ∷ [])
@@ -121,10 +144,10 @@ node-is s at i j st x h k = rw (← h, ← k)
 module _ {s : List ℕ} {start : ℕ} {nodes : List Place} {count : ℕ} {q : Queue} {at : ℕ} {prev : NodeRef} {e : Edge} (k : Kept s start nodes count q at prev e)
     (i : ℕ) (x : NodeRead) (skipped : i ≡ skip (drop at s) at) (after : at ≤ i) (inside : i ≤ length s) (read : x ≡ nodeAt (drop i s) i) where
   abbrev st : Seen
-  st = seen nodes count q prev
+  st = read-of nodes count (k .typed) prev
 
-  reading : onto (taken x i (joint e) st) (turns (k .left) s) ≡ textFrom s start
-  reading = rw (node-is s at i (joint e) st x skipped read) at (k .going)
+  reading : onto (taken x i (k .edge) st) (turns (k .left) s) ≡ textFrom s start
+  reading = rw (node-is s at i (k .edge) st x skipped read) at (k .going)
 
   pub node-refused : (r : CdError) → x ≡ node.Refused r → textFrom s start ≡ Refused r
   unfolding taken
@@ -134,13 +157,13 @@ module _ {s : List ℕ} {start : ℕ} {nodes : List Place} {count : ℕ} {q : Qu
   unfolding taken
   node-tenth n next h f = sym (rw (h, held-long nodes count (k .places) (k .few), le-leb limit count f) at reading)
 
-  pub found-reference : (this : NodeRef) (next : ℕ) → x ≡ node.Referred this next → Found s start at st e nodes count this next
+  pub found-reference : (this : NodeRef) (next : ℕ) → x ≡ node.Referred this next → Found k nodes count this next
   unfolding taken
   found-reference this next h =
       let a = reference-ahead s i this next inside (sym read ∙ h) in
       record { places = k .places; few = k .few; ahead = omega (arith, a); upto = a .1; left = k .left; enough = omega (arith, a, k .enough); turned = rw h at reading }
 
-  pub found-node : (n : Node) (next : ℕ) → x ≡ node.Added n next → count < limit → Found s start at st e (set nodes count (place n)) (count + 1) (Absolute count) next
+  pub found-node : (n : Node) (next : ℕ) → x ≡ node.Added n next → count < limit → Found k (set nodes count (place n)) (count + 1) (Absolute count) next
   unfolding taken
   found-node n next h f =
       let a = node-ahead s i n next inside (sym read ∙ h) in
@@ -163,12 +186,24 @@ pub record After (s : List ℕ) (start at : ℕ) (nodes : List Place) (count : �
   pub room : 2 * q .count ≤ next
   pub ahead : at < next
   pub upto : next ≤ length s
+  pub typed : List EdgeRef
+  pub waiting : waits q ≡ map keptRef typed
   pub left : ℕ
   pub enough : length s < left + next
-  pub turned : turns left s next (seen nodes count q prev) ≡ textFrom s start
+  pub turned : turns left s next (read-of nodes count typed prev) ≡ textFrom s start
 
 module _ {s : List ℕ} {start : ℕ} {nodes : List Place} {count : ℕ} {q : Queue} {at : ℕ} {prev : NodeRef} {e : Edge} (k : Kept s start nodes count q at prev e)
-    {nodes′ : List Place} {count′ : ℕ} {this : NodeRef} {next : ℕ} (f : Found s start at (seen nodes count q prev) e nodes′ count′ this next) where
+    {nodes′ : List Place} {count′ : ℕ} {this : NodeRef} {next : ℕ} (f : Found k nodes′ count′ this next) where
+  -- the queue with the edge read before this node, as typed and as it waits
+  abbrev longer : List EdgeRef
+  longer = queued (k .edge) (read-of nodes count (k .typed) prev) this
+
+  longer-kept : queued (joint e) (read-of nodes count (waits q) prev) this ≡ map keptRef longer
+  longer-kept =
+      ap (λ (w : List EdgeRef). queued (joint e) (read-of nodes count w prev) this) (k .waiting)
+      ∙ ap (λ (j : Joint). queued j (read-of nodes count (map keptRef (k .typed)) prev) this) (k .last)
+      ∙ sym (queued-kept (k .edge) (read-of nodes count (k .typed) prev) this)
+
   pub edge-waits : 0 < e .num → q .count < 128 → After s start at nodes′ count′ (record { at = set (q .at) (q .count) (record { first = prev; other = this; edge = e }); count = q .count + 1 }) this next
   unfolding joint queued
   edge-waits h b =
@@ -180,9 +215,11 @@ module _ {s : List ℕ} {start : ℕ} {nodes : List Place} {count : ℕ} {q : Qu
         room = omega (arith, k .spare h, f .ahead);
         ahead = f .ahead;
         upto = f .upto;
+        typed = longer;
+        waiting = take-set (q .at) (q .count) w (omega (arith, k .slots)) ∙ rw (lt-ltb 0 (e .num) h) at longer-kept;
         left = f .left;
         enough = f .enough;
-        turned = rw (take-set (q .at) (q .count) w (omega (arith, k .slots))) (rw (lt-ltb 0 (e .num) h) at (f .turned));
+        turned = f .turned;
       }
 
   pub none-waits : e .num ≤ 0 → After s start at nodes′ count′ q this next
@@ -195,19 +232,12 @@ module _ {s : List ℕ} {start : ℕ} {nodes : List Place} {count : ℕ} {q : Qu
         room = omega (arith, k .room, f .ahead);
         ahead = f .ahead;
         upto = f .upto;
+        typed = longer;
+        waiting = rw (le-ltb 0 (e .num) h) at longer-kept;
         left = f .left;
         enough = f .enough;
-        turned = rw (le-ltb 0 (e .num) h) at (f .turned);
+        turned = f .turned;
       }
-
--- an edge's num is above 0
-positive : (e : Edge) → isEdge (e .num) (e .den) ≡ true → 0 < e .num
-unfolding isEdge
-positive e h = above (ltb 1 (e .num)) refl h
-  where
-    above : (t : Bool) → ltb 1 (e .num) ≡ t → t && (not (eqb (e .den) 0) && ltb (e .den) (e .num)) ≡ true → 0 < e .num
-    above true p q = let l = ltb-true 1 (e .num) p in omega arith
-    above false p q = absurd (true≢false (sym q))
 
 -- ---- the end, or another turn
 
@@ -229,7 +259,7 @@ more (suc n) s at st h l = record { less = n; one = refl; is = rw (lt-ltb at (le
 
 module _ {s : List ℕ} {start at : ℕ} {nodes : List Place} {count : ℕ} {q : Queue} {prev : NodeRef} {next : ℕ} (a : After s start at nodes count q prev next) where
   abbrev read-so-far : Seen
-  read-so-far = seen nodes count q prev
+  read-so-far = read-of nodes count (a .typed) prev
 
   pub whole : length s ≤ next → textFrom s start ≡ On next read-so-far
   whole h = sym (a .turned) ∙ over (a .left) s next read-so-far h
@@ -237,14 +267,14 @@ module _ {s : List ℕ} {start at : ℕ} {nodes : List Place} {count : ℕ} {q :
   m : next < length s → More (a .left) s next read-so-far
   m inside = more (a .left) s next read-so-far inside (a .enough)
 
-  module _ (inside : next < length s) (x : EdgeRead) (read : x ≡ edgeAt s next) where
-    turning : onto (afterEdge x s next read-so-far) (turns (m inside .less) s) ≡ textFrom s start
+  module _ (inside : next < length s) (x : EdgeRead) (read : x ≡ keptRead (edgeAt s next)) where
+    turning : (y : EdgeRead) → edgeAt s next ≡ y → onto (afterEdge y s next read-so-far) (turns (m inside .less) s) ≡ textFrom s start
     unfolding turn
-    turning = ap (λ (y : EdgeRead). onto (afterEdge y s next read-so-far) (turns (m inside .less) s)) read ∙ sym (m inside .is) ∙ a .turned
+    turning y h = ap (λ (z : EdgeRead). onto (afterEdge z s next read-so-far) (turns (m inside .less) s)) (sym h) ∙ sym (m inside .is) ∙ a .turned
 
     pub edge-refused : (r : CdError) → x ≡ edge.Refused r → textFrom s start ≡ Refused r
     unfolding afterEdge
-    edge-refused r h = sym (rw h at turning)
+    edge-refused r h = sym (turning (edge.Refused r) (kept-refused _ r (sym read ∙ h)))
 
     pub no-edge : x ≡ edge.NoEdge → Kept s start nodes count q next prev (record { num = 0; den = 0 })
     unfolding afterEdge joint
@@ -256,16 +286,21 @@ module _ {s : List ℕ} {start at : ℕ} {nodes : List Place} {count : ℕ} {q :
           room = a .room;
           spare = λ (z : 0 < 0). omega arith;
           upto = a .upto;
+          typed = a .typed;
+          waiting = a .waiting;
+          edge = Without;
+          last = refl;
           left = m inside .less;
           enough = omega (arith, m inside .one, a .enough);
-          going = rw h at turning;
+          going = turning edge.NoEdge (kept-none _ (sym read ∙ h));
         }
 
     pub an-edge : (e : Edge) (to : ℕ) → x ≡ edge.Read e to → Kept s start nodes count q to prev e × (next < to)
     unfolding afterEdge joint
     an-edge e to h =
-        let b = edge-next s next e to (a .upto) (sym read ∙ h) in
-        let v = positive e (edge-valid s next e to (sym read ∙ h)) in (
+        let t = kept-read _ e to (sym read ∙ h) in
+        let b = edge-next s next (t .edge) to (a .upto) (t .read) in
+        let v : 0 < e .num = rw (t .reduces) (reduced-num-positive (t .edge) (edge-valid s next (t .edge) to (t .read))) in (
           record {
             places = a .places;
             few = a .few;
@@ -273,9 +308,13 @@ module _ {s : List ℕ} {start at : ℕ} {nodes : List Place} {count : ℕ} {q :
             room = omega (arith, a .room, b);
             spare = λ (z : 0 < e .num). omega (arith, a .room, b);
             upto = b .1;
+            typed = a .typed;
+            waiting = a .waiting;
+            edge = With (t .edge);
+            last = rw (lt-ltb 0 (e .num) v) (ap With (t .reduces));
             left = m inside .less;
             enough = omega (arith, m inside .one, a .enough, b);
-            going = rw (lt-ltb 0 (e .num) v) (rw h at turning);
+            going = turning (edge.Read (t .edge) to) (t .read);
           },
           b .0,
         )
@@ -292,7 +331,7 @@ pub record Ended (s : List ℕ) (start : ℕ) (nodes : List Place) (count : ℕ)
   pub few : count ≤ limit
   pub slots : length (q .at) ≡ 128
   pub fits : q .count ≤ 128
-  pub gives : joined (textFrom s start) ≡ withEdges (held nodes count) (joinAll count (waits q) 0 [])
+  pub gives : kept (joined (textFrom s start)) ≡ withEdges (held nodes count) (joinAll count (waits q) 0 [])
 
 pub ended : {s : List ℕ} {start at : ℕ} {nodes : List Place} {count : ℕ} {q : Queue} {prev : NodeRef} {next : ℕ} → After s start at nodes count q prev next
     → length s ≤ 255 → length s ≤ next → Ended s start nodes count q
@@ -303,21 +342,24 @@ ended {nodes = nodes} {count = count} {q = q} a short h =
       few = a .few;
       slots = a .slots;
       fits = omega (arith, a .room, a .upto);
-      gives = ap joined (whole a h) ∙ ap (λ (n : ℕ). withEdges (held nodes count) (joinAll n (waits q) 0 [])) (held-long nodes count (a .places) (a .few));
+      gives =
+          ap (λ (o : Outcome). kept (joined o)) (whole a h)
+          ∙ reading-kept (held nodes count) (length (held nodes count)) (a .typed)
+          ∙ rw (a .waiting, held-long nodes count (a .places) (a .few));
     }
 
 module _ {s : List ℕ} {start : ℕ} {nodes : List Place} {count : ℕ} {q : Queue} (e : Ended s start nodes count q) where
-  pub join-refused : (r : CdError) → joinAll count (waits q) 0 [] ≡ joining.Refused r → answer (gives.Refused r) ≡ answer (joined (textFrom s start))
+  pub join-refused : (r : CdError) → joinAll count (waits q) 0 [] ≡ joining.Refused r → answer (gives.Refused r) ≡ answer (kept (joined (textFrom s start)))
   unfolding withEdges
   join-refused r h = ap answer (sym (e .gives ∙ ap (withEdges (held nodes count)) h))
 
   -- nodes in their places, and the edges stored, are the diagram
   pub join-accepted : (es : List Stored) → joinAll count (waits q) 0 [] ≡ joining.Edges es
-      → record { answer = Accepted; cd = record { nodes = nodes; count = count; pairs = triangle (between 1 es) limit; edges = length es } } ≡ answer (joined (textFrom s start))
+      → record { answer = Accepted; cd = record { nodes = nodes; count = count; pairs = triangle (between 1 es) limit; edges = length es } } ≡ answer (kept (joined (textFrom s start)))
   unfolding withEdges answer cdOf
   join-accepted es h =
       let l : map place (held nodes count) ≡ take count nodes = same-places (take count nodes) in
-      let g : joined (textFrom s start) ≡ gives.Accepted (held nodes count) es = e .gives ∙ ap (withEdges (held nodes count)) h in
+      let g : kept (joined (textFrom s start)) ≡ gives.Accepted (held nodes count) es = e .gives ∙ ap (withEdges (held nodes count)) h in
       let c = held-long nodes count (e .places) (e .few) in
       ap (λ (x : List Place). record { answer = Accepted; cd = record { nodes = x; count = count; pairs = triangle (between 1 es) limit; edges = length es } })
       (e .places ∙ ap (padded (place Unringed) limit) (sym l))

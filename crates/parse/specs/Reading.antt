@@ -1,10 +1,11 @@
--- Document 01, "Reading" and "What each operation refuses", Text: what a text is read as.
+-- Document 01, "Reading" and "What each operation refuses", Text: what a text is read as. Document 02, K2: the edges kept.
 use Prim.Native.Nat.{ℕ, _+_}
-use mathlib.Core.List.{List, [], _∷_}
+use mathlib.Core.List.{List, [], _∷_, map}
 use lib.Dec.{ltb, leb}
 use lib.ListN.{length}
 use Rattle.float.specs.Pick.{pick}
 use Rattle.cd.specs.Diagrams.{Stored, cdOf}
+use Rattle.cd.specs.Edges.{reduced}
 use Rattle.cd.specs.declared.CdError.{CdError}
 use Rattle.cd.specs.declared.CdError.the-variants.{TooLong, NotAscii}
 use Rattle.cd.specs.declared.Node.{Node}
@@ -36,11 +37,30 @@ high [] i = i
 high (b ∷ bs) i = let r = high bs (i + 1) in pick (leb 128 b) i r
 
 -- "1, over 255 bytes (position 255). 2, a byte of 128 or more (the first). Then as reading meets them"
-unfoldable pub readFrom : List ℕ → ℕ → Reading
+unfoldable pub typedFrom : List ℕ → ℕ → Reading
 unfolding joined high
-readFrom s at =
+typedFrom s at =
     let r = joined (textFrom s at) in
     pick (ltb 255 (length s)) (Refused (TooLong 255)) (pick (ltb (high s 0) (length s)) (Refused (NotAscii (high s 0))) r)
+
+-- document 01's reading: the edges as typed
+unfoldable pub typed : List ℕ → Reading
+unfolding typedFrom
+typed s = typedFrom s 0
+
+-- Document 02, K2: "The edge kept after reading should carry num and den divided by their greatest common divisor, so the diagram, the matrix and the record
+-- all start from it."
+abbrev pub keptEdge : Stored → Stored
+keptEdge s = record { first = s .first; other = s .other; edge = reduced (s .edge) }
+
+unfoldable pub kept : Reading → Reading
+unfolding reduced
+kept (Accepted ns es) = Accepted ns (map keptEdge es)
+kept (Refused r) = Refused r
+
+unfoldable pub readFrom : List ℕ → ℕ → Reading
+unfolding typedFrom kept
+readFrom s at = kept (typedFrom s at)
 
 unfoldable pub read : List ℕ → Reading
 unfolding readFrom

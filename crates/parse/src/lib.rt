@@ -16,7 +16,7 @@ ghost use mathlib.Core.Path.{_≡_};
 ghost use Prim.Native.Nat.{_≤_};
 ghost use lib.ListN.{length};
 ghost use Rattle.parse.specs.Text.{textFrom};
-ghost use Rattle.parse.specs.Reading.{Reading, joined, answer};
+ghost use Rattle.parse.specs.Reading.{Reading, joined, kept, answer};
 
 // Edges wait here. A turn that adds one reads two bytes, so 128 places do for 255.
 pub struct Queue {
@@ -60,7 +60,7 @@ pub fn refused(r: CdError) -> Read
 // function, since nodes and queue are locals that are stored in place: to hand them on copies them, a quarter of a short text's time.)
 pub fn read_text(s: &[u8], start: usize) -> Read
     requires { ⌜ (start ≤ length (now s)) × (length (now s) ≤ 255) ⌝ }
-    ensures { λ r. ⌜ r ≡ answer (joined (textFrom (now (s .entry)) start)) ⌝ }
+    ensures { λ r. ⌜ r ≡ answer (kept (joined (textFrom (now (s .entry)) start))) ⌝ }
 {
     let place = Place {
         node: Node::Unringed,

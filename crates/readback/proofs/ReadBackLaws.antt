@@ -11,8 +11,9 @@ use Rattle.filing.specs.Readable.{Readable, spelled}
 use Rattle.filing.specs.Records.{recordLength, layout, IsRecord}
 use Rattle.filing.proofs.Layouts.{length-layout}
 use Rattle.filing.proofs.Numberings.{identity}
-use Rattle.filing.proofs.Readback.{is-record-iff, spelled-laid}
+use Rattle.filing.proofs.Readback.{is-record-iff, readable-lowest, spelled-laid}
 use Rattle.parse.specs.Reading.{Reading, Accepted}
+use Rattle.tables.specs.Tables.{IsKept}
 use Rattle.readback.specs.ReadBack.{ReadBack, wrong-length, no-diagram, record-of}
 use Rattle.readback.specs.Spelled.{nodesIn, edgesIn}
 use Rattle.readback.proofs.SpelledLaws.{readBack, spelled-size, spelled-is-diagram, spelled-layout}
@@ -26,6 +27,9 @@ Smallest N d p = (q : ℕ → ℕ) → Numbering (d .size) q → layout N d p �
 module _ (N : ℕ) (l : List ℕ) (r : Readable N l) where
   pub readable-spelled : IsDiagram N (spelled N l)
   readable-spelled = is-record-iff N l .0 r .0
+
+  pub readable-kept : IsKept N (spelled N l)
+  readable-kept = record { is = readable-spelled; lowest-terms = readable-lowest N l r }
 
   pub readable-laid : layout N (readBack N l) (λ i. i) ≡ l
   readable-laid = spelled-layout N l readable-spelled (λ i. i) (identity (spelled N l .size)) ∙ spelled-laid N l r

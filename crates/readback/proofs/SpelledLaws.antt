@@ -15,7 +15,7 @@ use lib.Ieee.Bits.{toBits-ofBits, nanBits-is}
 use lib.ListN.{length, getD}
 use Rattle.float.specs.Pick.{pick}
 use Rattle.cd.specs.Diagrams.{Stored, joins, isJoined}
-use Rattle.cd.specs.Edges.{isTwo}
+use Rattle.cd.specs.Edges.{isTwo, fraction, edgeOf}
 use Rattle.cd.specs.declared.Edge.{Edge}
 use Rattle.cd.specs.declared.Node.the-variants.{Unringed}
 use Rattle.cd.proofs.Stored.{joins-same}
@@ -28,11 +28,12 @@ use Rattle.filing.specs.Readable.{nodeAt, fractionAt, pairPlace, spelled}
 use Rattle.filing.specs.Records.{layout}
 use Rattle.filing.proofs.Bytes.{singles-at, one-more}
 use Rattle.filing.proofs.Filing.{layout-same}
+use Rattle.filing.proofs.Gcd.{lowest-whole}
 use Rattle.filing.proofs.Numberings.{differ}
-use Rattle.tables.specs.Diagrams.{filed, fraction, two, joint, diagram}
-use Rattle.tables.specs.Tables.{IsNumber}
+use Rattle.tables.specs.Diagrams.{filed, two, joint, diagram}
+use Rattle.tables.specs.Tables.{IsNumber, IsLowest, IsKept}
 use Rattle.tables.proofs.Joints.{two-edge, joint-symmetric}
-use Rattle.readback.specs.Spelled.{node, nodesTo, edgeOf, edgeAt, rowTo, edgesTo, nodesIn, edgesIn}
+use Rattle.readback.specs.Spelled.{node, nodesTo, edgeAt, rowTo, edgesTo, nodesIn, edgesIn}
 use Rattle.readback.proofs.Nodes.{length-nodesTo}
 use Rattle.readback.proofs.StoredEdges.{blocks-apart, edge-apart}
 
@@ -138,6 +139,14 @@ kept-edge : (x : Fraction) → IsEdge x → IsEdge (kept x)
 unfolding kept
 kept-edge x h = picked-edge (isTwo (edgeOf x)) x h
 
+picked-lowest : (t : Bool) (x : Fraction) → IsLowest x → IsLowest (pick t two x)
+picked-lowest true x h = lowest-whole 2
+picked-lowest false x h = h
+
+kept-lowest : (x : Fraction) → IsLowest x → IsLowest (kept x)
+unfolding kept
+kept-lowest x h = picked-lowest (isTwo (edgeOf x)) x h
+
 module _ (N : ℕ) (l : List ℕ) where
   joint-edgeAt : (i j : ℕ) → joint (edgeAt N l j i) i j ≡ kept (fractionAt l (pairPlace N i j))
   unfolding edgeAt kept
@@ -207,6 +216,13 @@ module _ (N : ℕ) (l : List ℕ) (w : IsDiagram N (spelled N l)) where
       edges : (i j : ℕ) → i < readBack N l .size → j < readBack N l .size → i ≢ j → IsEdge (readBack N l .edge i j)
       edges i j h k ne = rw (spelled-kept i j (inside h) (inside k) ne) (kept-edge (spelled N l .edge i j) (w .edges i j (inside h) (inside k) ne))
 
+  spelled-lowest : ((i j : ℕ) → i < spelled N l .size → j < spelled N l .size → i ≢ j → IsLowest (spelled N l .edge i j))
+      → (i j : ℕ) → i < readBack N l .size → j < readBack N l .size → i ≢ j → IsLowest (readBack N l .edge i j)
+  spelled-lowest low i j h k ne =
+      let hi : i < spelled N l .size = rw (spelled-size N l) at h in
+      let hj : j < spelled N l .size = rw (spelled-size N l) at k in
+      rw (spelled-kept i j hi hj ne) (kept-lowest (spelled N l .edge i j) (low i j hi hj ne))
+
   pub spelled-layout : (p : ℕ → ℕ) → Numbering (spelled N l .size) p → layout N (readBack N l) p ≡ layout N (spelled N l) p
   spelled-layout p np = layout-same N spelled-is-diagram w (spelled-numbering N l p np) np (record { size = spelled-size N l; nodes = nodes; pairs = pairs })
     where
@@ -218,3 +234,6 @@ module _ (N : ℕ) (l : List ℕ) (w : IsDiagram N (spelled N l)) where
           let hj : j < spelled N l .size = rw (spelled-size N l) at k in
           let hi : i < spelled N l .size = omega arith in
           spelled-edge (p i) (p j) (np .within i hi) (np .within j hj) (differ np hi hj (omega arith))
+
+pub spelled-is-kept : (N : ℕ) (l : List ℕ) → IsKept N (spelled N l) → IsKept N (readBack N l)
+spelled-is-kept N l w = record { is = spelled-is-diagram N l (w .is); lowest-terms = spelled-lowest N l (w .is) (w .lowest-terms) }

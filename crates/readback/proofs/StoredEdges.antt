@@ -13,14 +13,14 @@ use borrow.Author.Tests.{ltb-false}
 use lib.ListN.{length, getD, set, replicate, length-append}
 use Rattle.float.specs.Pick.{pick}
 use Rattle.cd.specs.Diagrams.{Stored, joins, isJoined, none, between, limit, placeOf}
-use Rattle.cd.specs.Edges.{isTwo}
+use Rattle.cd.specs.Edges.{isTwo, edgeOf}
 use Rattle.cd.specs.declared.Edge.{Edge}
 use Rattle.cd.proofs.Arrays.{Same}
 use Rattle.cd.proofs.Stored.{joins-other, rank-joined, nothing-stored, stored}
 use Rattle.filing.specs.Bytes.{blocks}
 use Rattle.filing.specs.Readable.{numberAt, fractionAt, pairPlace}
 use Rattle.filing.specs.Records.{nodesLength, recordLength}
-use Rattle.readback.specs.Spelled.{edgeOf, edgeAt, rowTo, edgesTo}
+use Rattle.readback.specs.Spelled.{edgeAt, rowTo, edgesTo}
 use Rattle.readback.specs.Steps.{halves, Shows}
 use Rattle.readback.specs.declared.Edges.{Edges}
 use Rattle.readback.proofs.Numbers.{fraction-halves}

@@ -6,13 +6,11 @@ use lib.Ieee.{binary64, ofBits}
 use lib.ListN.{getD}
 use Rattle.float.specs.Pick.{pick}
 use Rattle.cd.specs.Diagrams.{Stored}
-use Rattle.cd.specs.Edges.{isTwo}
-use Rattle.cd.specs.declared.Edge.{Edge}
+use Rattle.cd.specs.Edges.{isTwo, edgeOf}
 use Rattle.cd.specs.declared.Node.{Node}
 use Rattle.cd.specs.declared.Node.the-variants.{Unringed, Ringed, Snub}
 use Rattle.filing.specs.Bytes.{blocks}
 use Rattle.filing.specs.Diagrams as filing
-use Rattle.filing.specs.Fractions.{Fraction}
 use Rattle.filing.specs.Readable.{nodeAt, fractionAt, pairPlace}
 
 -- "kind (1 unringed, 2 ringed, 3 snub), then its value bits"
@@ -24,9 +22,6 @@ node v = pick (eqb (v .kind) 1) Unringed (pick (eqb (v .kind) 2) (Ringed (ofBits
 unfoldable pub nodesTo : List ℕ → ℕ → List Node
 unfolding node nodeAt blocks
 nodesTo l n = blocks (λ i. node (nodeAt l i) ∷ []) n
-
-abbrev pub edgeOf : Fraction → Edge
-edgeOf x = record { num = x .num; den = x .den }
 
 -- "2 and 1 if nothing joins them": an edge is stored for every other pair
 unfoldable pub edgeAt : ℕ → List ℕ → ℕ → ℕ → List Stored

@@ -5,19 +5,20 @@ use Prim.Native.Nat.{ℕ, _+_, _-_, _*_, _/_, _%_, _^_, _<_}
 use lib.ListN.{length}
 use Rattle.cd.specs.Arrays.{triangle}
 use Rattle.cd.specs.Diagrams.{Stored, limit, between}
-use Rattle.filing.specs.Diagrams.{IsNode, IsEdge}
+use Rattle.filing.specs.Diagrams.{IsNode}
 use Rattle.filing.specs.Fractions.{Fraction}
 use Rattle.filing.specs.Readable.{nodeAt, fractionAt}
 use Rattle.filing.specs.Records.{nodesLength}
+use Rattle.tables.specs.Tables.{IsPair}
 use Rattle.readback.specs.declared.Edges.{Edges}
 
 -- the first n nodes are nodes
 abbrev pub NodesTo : List ℕ → ℕ → Type 0
 NodesTo l n = (i : ℕ) → i < n → IsNode (nodeAt l i)
 
--- the pairs of n nodes, one after another, are edges
+-- the pairs of n nodes, one after another, are edges in lowest terms
 abbrev pub PairsTo : ℕ → List ℕ → ℕ → Type 0
-PairsTo N l n = (k : ℕ) → k < n * (n - 1) / 2 → IsEdge (fractionAt l (1 + nodesLength N + 8 * k))
+PairsTo N l n = (k : ℕ) → k < n * (n - 1) / 2 → IsPair (fractionAt l (1 + nodesLength N + 8 * k))
 
 -- the fraction whose num and den are the halves of a number
 abbrev pub halves : ℕ → Fraction

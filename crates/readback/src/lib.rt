@@ -20,12 +20,14 @@ ghost use lib.Ieee.{binary64, nanBits};
 ghost use lib.ListN.{length};
 ghost use Rattle.cd.specs.Arrays.{padded};
 ghost use Rattle.cd.specs.Diagrams.{limit, place, cdOf};
+ghost use Rattle.cd.specs.Edges.{edgeOf};
 ghost use Rattle.cd.specs.Minimal.{Decides};
 ghost use Rattle.cd.specs.declared.Node.the-variants.{Unringed};
-ghost use Rattle.filing.specs.Diagrams.{IsNode, IsEdge, IsDiagram};
+ghost use Rattle.filing.specs.Diagrams.{IsNode, IsDiagram};
 ghost use Rattle.filing.specs.Readable.{numberAt, spelled as the-spelled};
 ghost use Rattle.filing.specs.Records.{recordLength};
 ghost use Rattle.parse.specs.Reading.{Reading, answer};
+ghost use Rattle.tables.specs.Tables.{IsPair, IsKept};
 ghost use Rattle.readback.specs.ReadBack.{ReadBack};
 ghost use Rattle.readback.specs.Spelled.{node, nodesTo, nodesIn, edgesTo, edgesIn};
 ghost use Rattle.readback.specs.Steps.{NodesTo, PairsTo, halves, Shows};
@@ -62,16 +64,29 @@ fn is_node(kind: u8, bits: u64) -> bool
     }
 }
 
-// Whether the number that a pair's bytes spell is an edge's.
-fn is_pair(x: u64) -> bool
-    ensures { λ r. ⌜ Decides (IsEdge (halves x)) r ⌝ }
+// The edge whose numbers eight bytes spell.
+fn edge_of(x: u64) -> Edge
+    ensures { λ e. ⌜ e ≡ edgeOf (halves x) ⌝ }
 {
-    let num = x / 0x1_0000_0000;
-    let den = x % 0x1_0000_0000;
-    if den == 0 {
+    Edge {
+        num: (x / 0x1_0000_0000) as u32,
+        den: (x % 0x1_0000_0000) as u32,
+    }
+}
+
+// Whether the number that a pair's bytes spell is that of an edge in smallest numbers.
+fn is_pair(x: u64) -> bool
+    ensures { λ r. ⌜ Decides (IsPair (halves x)) r ⌝ }
+{
+    let edge = edge_of(x);
+    if edge.den == 0 {
         return false;
     }
-    den < num
+    if edge.num <= edge.den {
+        return false;
+    }
+    let least = cd::reduced(edge);
+    least.den == edge.den
 }
 
 fn are_nodes(s: &[u8], n: usize) -> bool
@@ -105,7 +120,7 @@ fn are_pairs(s: &[u8], n: usize) -> bool
 // Whether count, kinds, values and fractions are a diagram's.
 fn is_spelled(s: &[u8]) -> bool
     requires { ⌜ length (now s) ≡ recordLength limit ⌝ }
-    ensures { λ r. ⌜ Decides (IsDiagram limit (the-spelled limit (now (s .entry)))) r ⌝ }
+    ensures { λ r. ⌜ Decides (IsKept limit (the-spelled limit (now (s .entry)))) r ⌝ }
 {
     let n = s[0] as usize;
     if LIMIT < n {
@@ -159,11 +174,7 @@ fn read_row(s: &[u8], j: usize, before: Edges) -> Edges
     let mut e = before;
     let mut i = 0;
     while i < j {
-        let x = number_at(s, PAIRS_AT + 8 * (j * (j - 1) / 2 + i));
-        let edge = Edge {
-            num: (x / 0x1_0000_0000) as u32,
-            den: (x % 0x1_0000_0000) as u32,
-        };
+        let edge = edge_of(number_at(s, PAIRS_AT + 8 * (j * (j - 1) / 2 + i)));
         if !cd::eq_two(edge) {
             e.count += 1;
             e.pairs[cd::pair_place(i, j)] = Pair {

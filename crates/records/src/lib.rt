@@ -10,11 +10,10 @@ ghost use Rattle.cd.specs.Diagrams.{Stored, limit, cdOf};
 ghost use Rattle.cd.specs.Minimal.{Decides};
 ghost use Rattle.cd.specs.declared.Node.{Node};
 ghost use Rattle.filing.specs.Bytes.{bytes, written};
-ghost use Rattle.filing.specs.Diagrams.{IsDiagram};
 ghost use Rattle.filing.specs.Numberings.{Numbering, at};
 ghost use Rattle.filing.specs.Records.{nodesLength, recordLength};
 ghost use Rattle.tables.specs.Diagrams.{diagram};
-ghost use Rattle.tables.specs.Tables.{Numbers, tableNodes, tableRow, tablePairs, tableLayout};
+ghost use Rattle.tables.specs.Tables.{Numbers, IsKept, tableNodes, tableRow, tablePairs, tableLayout};
 ghost use Rattle.records.specs.Written.{Written};
 
 // A record's length; its node's; where its pairs begin.
@@ -146,7 +145,7 @@ pub fn is_layout<'a>(
 // The record of a diagram, and the first numbering that gives it: for each new place its old node.
 pub fn write(cd: Cd, out: &mut [u8]) -> [usize; LIMIT]
     requires { ⌜ Numbers (cd .nodes) × (cd .count ≤ limit) × (recordLength limit ≤ length (now out)) ⌝ }
-    ensures { λ p. ⌜ ((ns : List Node) (es : List Stored) → cd ≡ cdOf ns es → IsDiagram limit (diagram ns es) → Written limit (diagram ns es) (now (out .entry)) (now (out .exit)) p) ⌝ }
+    ensures { λ p. ⌜ ((ns : List Node) (es : List Stored) → cd ≡ cdOf ns es → IsKept limit (diagram ns es) → Written limit (diagram ns es) (now (out .entry)) (now (out .exit)) p) ⌝ }
 {
     let t = tables::of(cd);
     let n = t.count;

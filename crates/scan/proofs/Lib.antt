@@ -4,3 +4,4 @@ pub mod Rest
 pub mod Spaces
 mod Runs
 pub mod Places
+pub mod KeptLaws

@@ -3,3 +3,4 @@ pub mod Ascii
 pub mod Bytes
 pub mod Spaces
 pub mod Edges
+pub mod Kept

@@ -8,6 +8,7 @@ ghost use lib.ListN.{length, drop};
 ghost use Rattle.scan.specs.Bytes.{isSpace, isDigit, digit};
 ghost use Rattle.scan.specs.Spaces.{skip};
 ghost use Rattle.scan.specs.Edges.{sortOf, empty, closes, edge, lastTwo, run, edgeAt};
+ghost use Rattle.scan.specs.Kept.{kept};
 
 pub fn is_space(b: u8) -> bool
     ensures { λ r. ⌜ r ≡ isSpace b ⌝ }
@@ -84,13 +85,13 @@ pub enum EdgeRead {
     Refused(CdError),
 }
 
-// An edge of two numbers; `i` is the place after its run.
+// The edge of two numbers, in smallest ones, or a refusal with those typed; `i` is the place after its run.
 pub fn rational(num: u32, den: u32, i: usize) -> EdgeRead
     requires { ⌜ 0 < i ⌝ }
-    ensures { λ r. ⌜ r ≡ edge num den i ⌝ }
+    ensures { λ r. ⌜ r ≡ kept (edge num den i) ⌝ }
 {
     if cd::is_edge(num, den) {
-        EdgeRead::Read(Edge { num: num, den: den }, i)
+        EdgeRead::Read(cd::reduced(Edge { num: num, den: den }), i)
     } else {
         EdgeRead::Refused(CdError::InvalidEdge {
             num: num,
@@ -103,7 +104,7 @@ pub fn rational(num: u32, den: u32, i: usize) -> EdgeRead
 // The edge of the last two parts, where the run ends at `i`.
 pub fn last_two(before: Before, last: u32, i: usize) -> EdgeRead
     requires { ⌜ 0 < i ⌝ }
-    ensures { λ r. ⌜ r ≡ lastTwo before last i ⌝ }
+    ensures { λ r. ⌜ r ≡ kept (lastTwo before last i) ⌝ }
 {
     match before {
         Before::Nothing => rational(last, 1, i),
@@ -122,7 +123,7 @@ pub fn closes(value: u64, some: bool) -> bool
 // (Part and value are locals, and a step has no answer of its own: it would go through memory at each byte.)
 pub fn parse_edge(s: &[u8], at: usize) -> EdgeRead
     requires { ⌜ (0 < at) × (at ≤ length (now s)) ⌝ }
-    ensures { λ r. ⌜ r ≡ run (drop at (now (s .entry))) at Before.Nothing empty ⌝ }
+    ensures { λ r. ⌜ r ≡ kept (run (drop at (now (s .entry))) at Before.Nothing empty) ⌝ }
 {
     let mut value = 0;
     let mut some = false;
@@ -164,7 +165,7 @@ pub fn parse_edge(s: &[u8], at: usize) -> EdgeRead
 // An optional edge at `at`, after spaces.
 pub fn create_edge(s: &[u8], at: usize) -> EdgeRead
     requires { ⌜ (0 < at) × (at ≤ length (now s)) ⌝ }
-    ensures { λ r. ⌜ r ≡ edgeAt (now (s .entry)) at ⌝ }
+    ensures { λ r. ⌜ r ≡ kept (edgeAt (now (s .entry)) at) ⌝ }
 {
     let i = skip_whitespace(s, at);
     if i < s.len() {

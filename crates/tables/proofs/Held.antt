@@ -3,13 +3,14 @@
 use Prim.Native.Nat.{ℕ, zero, suc, _+_, _<_}
 use mathlib.Core.Bool.{Bool, true, false}
 use mathlib.Core.List.{List, [], _∷_, map}
-use mathlib.Core.Path.{_≡_, refl, ap, _∙_}
+use mathlib.Core.Path.{_≡_, refl, sym, ap, _∙_}
 use native.Mathlib.Nat.{not-suc-le-zero, le-of-suc-le-suc}
 use native.Mathlib.Omega.{arith}
 use borrow.Author.Tests.{eq-eqb, ne-eqb}
 use lib.ListN.{length, getD}
 use Rattle.float.specs.Pick.{pick}
 use Rattle.cd.specs.Diagrams.{Stored, joins, between, limit, none, place, placeOf, cdOf}
+use Rattle.cd.specs.Edges.{fraction}
 use Rattle.cd.specs.declared.Cd.{Cd}
 use Rattle.cd.specs.declared.Edge.{Edge}
 use Rattle.cd.specs.declared.Node.{Node}
@@ -18,33 +19,28 @@ use Rattle.cd.specs.declared.Pair.{Pair}
 use Rattle.cd.specs.declared.Place.{Place}
 use Rattle.cd.proofs.Arrays.{length-padded}
 use Rattle.cd.proofs.Stored.{loaded, count-held, nodes-held, node-held, pairs-held}
-use Rattle.filing.specs.Diagrams.{IsDiagram}
-use Rattle.filing.specs.Fractions.{Fraction, gcd, lowest}
+use Rattle.filing.specs.Fractions.{Fraction}
 use Rattle.filing.specs.Numberings.{at}
-use Rattle.tables.specs.Diagrams.{filed, fraction, two, joint, diagram}
-use Rattle.tables.specs.Tables.{number, pairNumber, PairTable, Holds}
+use Rattle.tables.specs.Diagrams.{filed, two, joint, diagram}
+use Rattle.tables.specs.Tables.{IsKept, spelt, number, pairNumber, PairTable, Holds}
 use Rattle.tables.specs.declared.Tables.{Tables}
 
 -- ---- the number of a pair's place
 
-pub number-of-nothing : (p : Pair) → p .edge .den ≡ 0 → pairNumber p ≡ number two
+pub number-of-nothing : (p : Pair) → p .edge .den ≡ 0 → pairNumber p ≡ spelt two
 unfolding pairNumber
 number-of-nothing p e = rw (eq-eqb (p .edge .den) 0 e)
 
-pub number-of-edge : (p : Pair) → (p .edge .den ≡ 0 → ⊥) → pairNumber p ≡ number (fraction (p .edge))
+pub number-of-edge : (p : Pair) → (p .edge .den ≡ 0 → ⊥) → pairNumber p ≡ spelt (fraction (p .edge))
 unfolding pairNumber
 number-of-edge p e = rw (ne-eqb (p .edge .den) 0 e)
 
-pub number-two : number two ≡ 0x2_0000_0001
-unfolding number lowest gcd
-number-two = refl
-
 -- of an edge and what is told without it, the one picked
-number-picked : (t : Bool) (k : ℕ) (e : Edge) (q : Pair) (x : Fraction) → (0 < x .den → pairNumber q ≡ number x) → 0 < pick t (fraction e) x .den → pairNumber (pick t (record { rank = k; edge = e }) q) ≡ number (pick t (fraction e) x)
+number-picked : (t : Bool) (k : ℕ) (e : Edge) (q : Pair) (x : Fraction) → (0 < x .den → pairNumber q ≡ spelt x) → 0 < pick t (fraction e) x .den → pairNumber (pick t (record { rank = k; edge = e }) q) ≡ spelt (pick t (fraction e) x)
 number-picked true k e q x f h = number-of-edge (record { rank = k; edge = e }) (λ z. omega arith)
 number-picked false k e q x f h = f h
 
-pub number-between : (k : ℕ) (es : List Stored) (i j : ℕ) → 0 < joint es i j .den → pairNumber (between k es i j) ≡ number (joint es i j)
+pub number-between : (k : ℕ) (es : List Stored) (i j : ℕ) → 0 < joint es i j .den → pairNumber (between k es i j) ≡ spelt (joint es i j)
 unfolding between joint
 number-between k [] i j h = number-of-nothing none refl
 number-between k (s ∷ es) i j h = number-picked (joins i j s) k (s .edge) (between (k + 1) es i j) (joint es i j) (number-between (k + 1) es i j) h
@@ -63,16 +59,17 @@ module _ (cd : Cd) (ns : List Node) (es : List Stored) (held : cd ≡ cdOf ns es
       let long : length (cd .nodes) ≡ limit = ap length (nodes-held cd ns es held) ∙ length-padded (place Unringed) limit (map place ns) in
       at-map f (place Unringed) (cd .nodes) i (omega (arith, long)) ∙ ap f (node-held cd ns es held (place Unringed) i h)
 
-  pub tables-hold : (t : Tables) → t .count ≡ cd .count → t .kinds ≡ map (λ p. filed (p .node) .kind) (cd .nodes) → t .bits ≡ map (λ p. filed (p .node) .bits) (cd .nodes) → PairTable limit (cd .count) (cd .pairs) (t .pairs) → IsDiagram limit (diagram ns es) → Holds limit t (diagram ns es)
-  unfolding diagram
+  pub tables-hold : (t : Tables) → t .count ≡ cd .count → t .kinds ≡ map (λ p. filed (p .node) .kind) (cd .nodes) → t .bits ≡ map (λ p. filed (p .node) .bits) (cd .nodes) → PairTable limit (cd .count) (cd .pairs) (t .pairs) → IsKept limit (diagram ns es) → Holds limit t (diagram ns es)
+  unfolding diagram number
   tables-hold t n ks bs ps d = record {
     count = n ∙ count-held cd ns es held;
-    kinds = λ i h. rw ks (node-table (λ p. filed (p .node) .kind) i (omega (arith, d .few)));
-    bits = λ i h. rw bs (node-table (λ p. filed (p .node) .bits) i (omega (arith, d .few)));
+    kinds = λ i h. rw ks (node-table (λ p. filed (p .node) .kind) i (omega (arith, d .is .few)));
+    bits = λ i h. rw bs (node-table (λ p. filed (p .node) .bits) i (omega (arith, d .is .few)));
     pairs = λ i j h l ne.
-        let low : i < limit = omega (arith, d .few) in
-        let low′ : j < limit = omega (arith, d .few) in
+        let low : i < limit = omega (arith, d .is .few) in
+        let low′ : j < limit = omega (arith, d .is .few) in
         ps i j (omega (arith, count-held cd ns es held)) low′
         ∙ ap pairNumber (ap (λ q. getD q (placeOf i j) none) (pairs-held cd ns es held) ∙ loaded es i j none low low′)
-        ∙ number-between 1 es i j (d .edges i j h l ne .den-pos);
+        ∙ number-between 1 es i j (d .is .edges i j h l ne .den-pos)
+        ∙ ap spelt (sym (d .lowest-terms i j h l ne));
   }

@@ -10,17 +10,18 @@ use lib.Ieee.{isNan}
 use lib.ListN.{getD}
 use Rattle.float.specs.Pick.{pick}
 use Rattle.cd.specs.Diagrams.{limit, none, place, placeOf}
+use Rattle.cd.specs.Edges.{fraction}
 use Rattle.cd.specs.declared.Node.{Node}
 use Rattle.cd.specs.declared.Node.the-variants.{Unringed, Ringed, Snub}
 use Rattle.cd.specs.declared.Pair.{Pair}
 use Rattle.cd.specs.declared.Place.{Place}
 use Rattle.filing.specs.Bytes.{bytes, blocks, filled}
-use Rattle.filing.specs.Diagrams.{Diagram}
+use Rattle.filing.specs.Diagrams.{Diagram, IsEdge, IsDiagram}
 use Rattle.filing.specs.Diagrams as filing
 use Rattle.filing.specs.Fractions.{Fraction, lowest}
 use Rattle.filing.specs.Numberings.{at}
 use Rattle.filing.specs.Records.{nodesLength, pairsLength}
-use Rattle.tables.specs.Diagrams.{fraction, two}
+use Rattle.tables.specs.Diagrams.{two}
 use Rattle.tables.specs.declared.Tables.{Tables}
 
 -- the node's value is not nan
@@ -33,15 +34,29 @@ IsNumber (Snub v) = isNan v ≡ false
 abbrev pub Numbers : List Place → Type 0
 Numbers ps = (i : ℕ) → i < limit → IsNumber (getD ps i (place Unringed) .node)
 
--- the number that the eight bytes of a pair spell
-unfoldable pub number : Fraction → ℕ
-unfolding lowest
-number x = lowest x .num * 2 ^ 32 + lowest x .den
+-- a fraction in lowest terms, an edge in them, and a diagram whose edges are
+abbrev pub IsLowest : Fraction → Type 0
+IsLowest x = lowest x ≡ x
 
--- the same of a pair's place: an edge has a den above 0
+abbrev pub IsPair : Fraction → Type 0
+IsPair x = IsEdge x × IsLowest x
+
+pub record IsKept (N : ℕ) (d : Diagram) : Type 0 where
+  pub is : IsDiagram N d
+  pub lowest-terms : (i j : ℕ) → i < d .size → j < d .size → i ≢ j → IsLowest (d .edge i j)
+
+-- the number that eight bytes of num and den spell, and that those of a pair spell
+unfoldable pub spelt : Fraction → ℕ
+spelt x = x .num * 2 ^ 32 + x .den
+
+unfoldable pub number : Fraction → ℕ
+unfolding spelt lowest
+number x = spelt (lowest x)
+
+-- the first of a pair's place: an edge has a den above 0
 unfoldable pub pairNumber : Pair → ℕ
-unfolding number
-pairNumber p = pick (eqb (p .edge .den) 0) (number two) (number (fraction (p .edge)))
+unfolding spelt
+pairNumber p = pick (eqb (p .edge .den) 0) (spelt two) (spelt (fraction (p .edge)))
 
 -- in a table of N × N places, the numbers of the pairs of n nodes
 abbrev pub PairTable : ℕ → ℕ → List Pair → List ℕ → Type 0

@@ -1,6 +1,5 @@
 // The tables of a diagram: what its filing record is made of, for the search to look up.
 use cd::Cd;
-use cd::Edge;
 use cd::LIMIT;
 use cd::Node;
 use cd::Pair;
@@ -10,11 +9,9 @@ ghost use mathlib.Core.Path.{_≡_};
 ghost use Prim.Native.Nat.{_+_, _*_, _≤_, _<_};
 ghost use Rattle.cd.specs.Diagrams.{Stored, limit, cdOf};
 ghost use Rattle.cd.specs.declared.Node.{Node as ANode};
-ghost use Rattle.filing.specs.Diagrams.{IsDiagram};
-ghost use Rattle.filing.specs.Fractions.{gcd as the-gcd};
 ghost use Rattle.filing.specs.Numberings.{at};
-ghost use Rattle.tables.specs.Diagrams.{filed, fraction, diagram};
-ghost use Rattle.tables.specs.Tables.{IsNumber, Numbers, number, pairNumber, PairTable, Fits, Holds};
+ghost use Rattle.tables.specs.Diagrams.{filed, diagram};
+ghost use Rattle.tables.specs.Tables.{IsNumber, Numbers, IsKept, pairNumber, PairTable, Fits, Holds};
 
 pub struct Tables {
     pub count: usize,
@@ -23,30 +20,7 @@ pub struct Tables {
     pub pairs: [u64; SQUARE],
 }
 
-// The greatest common divisor, by Euclid's algorithm.
-pub fn gcd(a: u32, b: u32) -> u32
-    ensures { λ r. ⌜ r ≡ the-gcd a b ⌝ }
-{
-    let mut x = a;
-    let mut y = b;
-    while y != 0 {
-        let rest = x % y;
-        x = y;
-        y = rest;
-    }
-    x
-}
-
-// The number that the eight bytes of a pair spell, whose order is the byte order: num and den in lowest terms.
-fn lowest(e: Edge) -> u64
-    requires { ⌜ 0 < e .den ⌝ }
-    ensures { λ r. ⌜ r ≡ number (fraction e) ⌝ }
-{
-    let g = gcd(e.num, e.den);
-    (e.num / g) as u64 * 0x1_0000_0000 + (e.den / g) as u64
-}
-
-// The same of a pair's place: 2 and 1 if nothing joins the two.
+// The number that the eight bytes of a pair spell, whose order is the byte order; 2 and 1 if nothing joins the two.
 fn pair_number(p: Pair) -> u64
     ensures { λ r. ⌜ r ≡ pairNumber p ⌝ }
 {
@@ -54,7 +28,7 @@ fn pair_number(p: Pair) -> u64
     if e.den == 0 {
         return 0x2_0000_0001;
     }
-    lowest(e)
+    e.num as u64 * 0x1_0000_0000 + e.den as u64
 }
 
 pub fn kind(n: Node) -> u8
@@ -122,9 +96,10 @@ fn pairs_of(cd: Cd) -> [u64; SQUARE]
     out
 }
 
+// Edges are in smallest numbers: nothing is divided here.
 pub fn of(cd: Cd) -> Tables
     requires { ⌜ Numbers (cd .nodes) × (cd .count ≤ limit) ⌝ }
-    ensures { λ t. ⌜ (t .count ≡ cd .count) × Fits t × ((ns : List ANode) (es : List Stored) → cd ≡ cdOf ns es → IsDiagram limit (diagram ns es) → Holds limit t (diagram ns es)) ⌝ }
+    ensures { λ t. ⌜ (t .count ≡ cd .count) × Fits t × ((ns : List ANode) (es : List Stored) → cd ≡ cdOf ns es → IsKept limit (diagram ns es) → Holds limit t (diagram ns es)) ⌝ }
 {
     Tables {
         count: cd.count,

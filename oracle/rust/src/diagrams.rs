@@ -1,6 +1,6 @@
 //! Nodes, fractions, and diagrams as `lexicon_read` lays them out.
 
-use crate::cox::cd::{Cd, Node};
+use crate::cox::cd::{Cd, Edge, Node};
 
 pub const LIMIT: usize = 9;
 pub const DIAGRAM: usize = 153;
@@ -36,6 +36,11 @@ pub struct Fraction {
 }
 
 impl Fraction {
+    /// The Rust's, as typed.
+    pub fn of(edge: Edge) -> Self {
+        Self { num: edge.num, den: edge.den }
+    }
+
     pub fn lowest(self) -> Self {
         let divisor = gcd(self.num, self.den);
         Self { num: self.num / divisor, den: self.den / divisor }
@@ -61,21 +66,26 @@ impl Diagram {
         diagram
     }
 
-    /// The Rust's.
+    /// The Rust's as the port must have it. Ticket K2: "Against the Rust, stored edges are compared after reducing the
+    /// Rust's."
     pub fn of(cd: &Cd) -> Self {
         let mut diagram = Self([0; DIAGRAM]);
-        diagram.lay_out(cd);
+        diagram.put_all(cd, Fraction::lowest);
         diagram
     }
 
-    /// The Rust's over what is there, its edges in the order stored.
+    /// The Rust's over what is there, its edges as typed.
     pub fn lay_out(&mut self, cd: &Cd) {
+        self.put_all(cd, |typed| typed);
+    }
+
+    /// The nodes and, in the order stored, the edges, each with what is made of its fraction as typed.
+    fn put_all(&mut self, cd: &Cd, made: impl Fn(Fraction) -> Fraction) {
         self.put_nodes(cd.node_iter().map(Place::of));
         self.0[2 * LIMIT..].fill(0);
         for (i, edge) in cd.raw_edges().iter().enumerate() {
             let ends = (edge.source().index(), edge.target().index());
-            let fraction = Fraction { num: edge.weight.num, den: edge.weight.den };
-            self.put(i + 1, ends, fraction);
+            self.put(i + 1, ends, made(Fraction::of(edge.weight)));
         }
     }
 

@@ -87,7 +87,8 @@ pub unsafe extern "C" fn rust_parse(text: *const u8, len: usize) -> u32 {
     }
 }
 
-/// Reads a text as include/lexicon.h's `lexicon_read` does: the same numbers in `out` and `answer`, the same one returned.
+/// Reads a text as include/lexicon.h's `lexicon_read` does: the same numbers in `out` and `answer`, the same one returned; but
+/// num and den are those typed, so that the time is the Rust's, which does not reduce.
 ///
 /// # Safety
 /// As for `rust_parse`; `out` points at `room` numbers, 153 or more, `answer` at four, and the text has at most nine nodes.

@@ -1,8 +1,8 @@
 -- `builder::parse_from` meets its contract: each answer is what the tests leave of `readFrom`. Assumes nothing.
-use mathlib.Core.Path.{_≡_, sym, ap, _∙_}
+use mathlib.Core.Path.{sym, ap, _∙_}
 use borrow.Author.Needs.{needs}
 use Rattle.parse.specs.Text.{Outcome}
-use Rattle.parse.specs.Reading.{answer, joined}
+use Rattle.parse.specs.Reading.{answer, joined, kept}
 use Rattle.builder.proofs.ReadLaws.{too-long, not-low, low, beyond}
 use Rattle.builder.proofs.parse_from.Statement.{statement}
 use Rattle.builder.proofs.parse_from.Tie as tie
@@ -28,12 +28,12 @@ refused-requires-3 : tie.Need-refused-requires-3
 refused-requires-3 c κs = search needs
 
 returns-3 : tie.Need-returns-3
-unfolding joined
+unfolding joined kept
 returns-3 c =
     let t = c .before .before in
     let n = t .before in
     c .refused3 .ensures
-    ∙ ap answer (sym (ap joined (beyond _ _ (c .before .if3 .taken)))) ∙ ap answer (sym (low _ _ _ (n .before .if1 .left) (n .not-ascii .ensures) (t .if2 .left)))
+    ∙ ap answer (sym (ap (λ (o : Outcome). kept (joined o)) (beyond _ _ (c .before .if3 .taken)))) ∙ ap answer (sym (low _ _ _ (n .before .if1 .left) (n .not-ascii .ensures) (t .if2 .left)))
 
 read-text-requires : tie.Need-read-text-requires
 read-text-requires c κs = search needs

@@ -6,7 +6,7 @@ use Rattle.parse.specs.Reading.{read}
 use Rattle.tables.proofs.TableLayouts.{numbers-held}
 use Rattle.lexicon.specs.Files.{refused, short, filed}
 use Rattle.lexicon.proofs.Answers.{read-few, Accepts, accepts, refuses}
-use Rattle.lexicon.proofs.Fileable.{accepted-diagram, accepted-numbers}
+use Rattle.lexicon.proofs.Fileable.{accepted-kept, accepted-numbers}
 use Rattle.lexicon.proofs.write_record.Statement.{statement}
 use Rattle.lexicon.proofs.write_record.Tie as tie
 
@@ -47,7 +47,7 @@ returns-2 c =
     let t = l .before in
     let a = accepted t in
     filed (a .is) (l .if1 .left) (t .enum-told .given .1) (count-held _ (a .ns) (a .es) (a .held))
-    (c .before .before .write .ensures (a .ns) (a .es) (a .held) (accepted-diagram _ (a .ns) (a .es) (a .is)))
+    (c .before .before .write .ensures (a .ns) (a .es) (a .held) (accepted-kept _ (a .ns) (a .es) (a .is)))
 
 returns-3 : tie.Need-returns-3
 returns-3 c =

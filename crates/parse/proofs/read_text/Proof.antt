@@ -1,8 +1,8 @@
 -- `parse::read_text` meets its contract. The invariant of the loop over the text is `Kept` of proofs/Turns.antt, with what is left of the length as its
 -- measure. At its end the answer is that of the queue joined (`Ended`); of the loop that joins, the invariant is `Midway` of proofs/JoinLaws.antt: the
 -- edges stored so far stand in their places, and the rest of the queue joined after them is the whole queue joined. Assumes nothing.
-use Prim.Native.Nat.{ℕ, _+_, _≤_, _-_}
-use mathlib.Core.List.{List, [], _∷_}
+use Prim.Native.Nat.{_+_, _≤_, _-_}
+use mathlib.Core.List.{[], _∷_}
 use mathlib.Core.Logic.{⊎-elim}
 use mathlib.Core.Path.{_≡_, refl, sym, ap, _∙_}
 use native.Mathlib.Omega.{arith}
@@ -16,19 +16,11 @@ use Rattle.cd.specs.declared.NodeRef.the-variants.{Absolute}
 use Rattle.cd.proofs.Arrays.{padded-blank}
 use Rattle.cd.proofs.Stored.{nothing-stored}
 use Rattle.parse.specs.Text.{Outcome}
-use Rattle.parse.specs.Reading.{joined, answer}
+use Rattle.parse.specs.Reading.{joined, kept, answer}
 use Rattle.parse.proofs.JoinLaws.{Midway, next-waiting, ends-below, over, dropped, missing, repeated, added}
-use Rattle.parse.proofs.Turns.{Kept, Found, After, Ended, waits, seen, kept-start, found-reference, found-node, node-refused, node-tenth, edge-waits, none-waits, ended, edge-refused, no-edge, an-edge, join-refused, join-accepted}
+use Rattle.parse.proofs.Turns.{Kept, Found, After, Ended, waits, kept-start, found-reference, found-node, node-refused, node-tenth, edge-waits, none-waits, ended, edge-refused, no-edge, an-edge, join-refused, join-accepted}
 use Rattle.parse.proofs.read_text.Statement.{statement}
 use Rattle.parse.proofs.read_text.Tie as tie
-use Rattle.parse.proofs.read_text.Reads as reads
-use Rattle.parse.proofs.read_text.Lts as lts
-use Rattle.cd.proofs.indices.Reads as indices-reads
-use Rattle.cd.proofs.pair_place.Reads as pair-place-reads
-use Rattle.node.proofs.create_node.Reads as create-node-reads
-use Rattle.parse.proofs.refused.Reads as refused-reads
-use Rattle.scan.proofs.create_edge.Reads as create-edge-reads
-use Rattle.scan.proofs.skip_whitespace.Reads as skip-whitespace-reads
 
 abbrev Inv-loop : tie.InvT-loop
 Inv-loop s start none first nodes₀ count₀ queue₀ at₀ prev₀ edge₀ nodes count queue at prev edge = Kept s start nodes count queue at prev edge
@@ -44,8 +36,7 @@ abbrev μ-loop2 : tie.MeasureT-loop2
 
 -- a node or reference was read, and a node was stored
 found : (c : tie.At-match-came Inv-loop μ-loop Inv-loop2 μ-loop2) → let l = c .before .before .before in
-    Found (l .before .before .args .s .now) (l .before .before .args .start) (l .loop .at) (seen (l .loop .nodes) (l .loop .count) (l .loop .queue) (l .loop .prev)) (l .loop .edge)
-    (c .match .nodes) (c .match .count) (c .match .this) (c .match .next)
+    Found (l .loop .inv) (c .match .nodes) (c .match .count) (c .match .this) (c .match .next)
 found c =
     let k = c .before .before in
     ⊎-elim
@@ -93,11 +84,11 @@ refused-requires : tie.Need-refused-requires Inv-loop μ-loop Inv-loop2 μ-loop2
 refused-requires c κs = search needs
 
 returns : tie.Need-returns Inv-loop μ-loop Inv-loop2 μ-loop2
-unfolding joined
+unfolding joined kept
 returns c =
     let n = c .before .before .before .before in
     let k = n .before in
-    c .refused .ensures ∙ sym (ap (λ (o : Outcome). answer (joined o)) (node-refused (k .before .loop .inv) _ _ (k .skip-whitespace .ensures .0) (k .skip-whitespace .ensures .2) (k .skip-whitespace .ensures .1) (n .create-node .ensures) _ (c .before .before .r .given .1)))
+    c .refused .ensures ∙ sym (ap (λ (o : Outcome). answer (kept (joined o))) (node-refused (k .before .loop .inv) _ _ (k .skip-whitespace .ensures .0) (k .skip-whitespace .ensures .2) (k .skip-whitespace .ensures .1) (n .create-node .ensures) _ (c .before .before .r .given .1)))
 
 enum-known-r-2 : tie.Need-enum-known-r-2 Inv-loop μ-loop Inv-loop2 μ-loop2
 enum-known-r-2 c = search needs
@@ -109,12 +100,12 @@ refused-requires-2 : tie.Need-refused-requires-2 Inv-loop μ-loop Inv-loop2 μ-l
 refused-requires-2 c κs = search needs
 
 returns-2 : tie.Need-returns-2 Inv-loop μ-loop Inv-loop2 μ-loop2
-unfolding joined
+unfolding joined kept
 returns-2 c =
     let x = c .before .before .before in
     let n = x .before .before in
     let k = n .before in
-    c .refused2 .ensures ∙ sym (ap (λ (o : Outcome). answer (joined o)) (node-tenth (k .before .loop .inv) _ _ (k .skip-whitespace .ensures .0) (k .skip-whitespace .ensures .2) (k .skip-whitespace .ensures .1) (n .create-node .ensures) _ _ (x .n .given .1) (c .before .if1 .taken)))
+    c .refused2 .ensures ∙ sym (ap (λ (o : Outcome). answer (kept (joined o))) (node-tenth (k .before .loop .inv) _ _ (k .skip-whitespace .ensures .0) (k .skip-whitespace .ensures .2) (k .skip-whitespace .ensures .1) (n .create-node .ensures) _ _ (x .n .given .1) (c .before .if1 .taken)))
 
 cast-t41 : tie.Need-cast-t41 Inv-loop μ-loop Inv-loop2 μ-loop2
 cast-t41 c = search needs
@@ -176,11 +167,11 @@ refused-requires-3 : tie.Need-refused-requires-3 Inv-loop μ-loop Inv-loop2 μ-l
 refused-requires-3 c κs = search needs
 
 returns-3 : tie.Need-returns-3 Inv-loop μ-loop Inv-loop2 μ-loop2
-unfolding joined
+unfolding joined kept
 returns-3 c =
     let e = c .before .before .before .before in
     let d = e .before in
-    c .refused3 .ensures ∙ sym (ap (λ (o : Outcome). answer (joined o)) (edge-refused (behind (d .before)) (omega (arith, d .if3 .left)) _ (e .create-edge .ensures) _ (c .before .before .r3 .given .1)))
+    c .refused3 .ensures ∙ sym (ap (λ (o : Outcome). answer (kept (joined o))) (edge-refused (behind (d .before)) (omega (arith, d .if3 .left)) _ (e .create-edge .ensures) _ (c .before .before .r3 .given .1)))
 
 loop2-holds : tie.Need-loop2-holds Inv-loop μ-loop Inv-loop2 μ-loop2
 loop2-holds c =

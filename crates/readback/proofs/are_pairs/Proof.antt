@@ -1,4 +1,4 @@
--- `readback::are_pairs` meets its contract. The invariant: the pairs below k are edges; the measure is what is left of the pairs. Assumes nothing.
+-- `readback::are_pairs` meets its contract. The invariant: the pairs below k are edges in lowest terms; the measure is what is left of the pairs. Assumes nothing.
 use mathlib.Core.Path.{sym, ap, _∙_, subst}
 use Prim.Native.Nat.{ℕ, _+_, _-_, _*_, _/_, _≤_, _<_}
 use native.Mathlib.Nat.{mul-le-mul}
@@ -8,10 +8,10 @@ use borrow.Author.Needs.{needs}
 use borrow.Author.Tests.{not-true, not-false}
 use Rattle.cd.specs.Diagrams.{limit}
 use Rattle.cd.specs.Minimal.{Decides}
-use Rattle.filing.specs.Diagrams.{IsEdge}
 use Rattle.filing.specs.Readable.{fractionAt}
 use Rattle.filing.specs.Records.{nodesLength}
 use Rattle.readback.specs.Steps.{halves}
+use Rattle.tables.specs.Tables.{IsPair}
 use Rattle.cd.proofs.Decided.{decides-yes, decides-not-all}
 use Rattle.readback.proofs.Numbers.{fraction-halves}
 use Rattle.readback.proofs.PairPlaces.{pairs, square-pairs, square-above, square-fewer}
@@ -19,7 +19,7 @@ use Rattle.readback.proofs.are_pairs.Statement.{statement}
 use Rattle.readback.proofs.are_pairs.Tie as tie
 
 abbrev Inv-loop : tie.InvT-loop
-Inv-loop s n k₀ k = (k ≤ (n * n - n) / 2) × ((m : ℕ) → m < k → IsEdge (fractionAt s (1 + nodesLength limit + 8 * m)))
+Inv-loop s n k₀ k = (k ≤ (n * n - n) / 2) × ((m : ℕ) → m < k → IsPair (fractionAt s (1 + nodesLength limit + 8 * m)))
 
 abbrev μ-loop : tie.MeasureT-loop
 μ-loop s n k₀ k = (n * n - n) / 2 - k
@@ -28,14 +28,14 @@ abbrev μ-loop : tie.MeasureT-loop
 within : (c : tie.In-loop Inv-loop μ-loop) → c .before .loop .k < pairs limit
 within c = let s = c .before .before .before in omega (arith, square-fewer limit (s .args .n) (s .pre .0), c .loop-test .taken)
 
--- the test is whether the pair at k is an edge
+-- the test is whether the pair at k is one
 tested : (c : tie.After-is-pair Inv-loop μ-loop) → let l = c .before .before .before in
-    Decides (IsEdge (fractionAt (l .before .before .args .s .now) (1 + nodesLength limit + 8 * l .loop .k))) (c .is-pair .result)
+    Decides (IsPair (fractionAt (l .before .before .args .s .now) (1 + nodesLength limit + 8 * l .loop .k))) (c .is-pair .result)
 tested c =
     let t = c .before .before in
     let k = t .before .before in
     let same = fraction-halves (k .before .args .s .now) (λ i. k .shared-slice-known .given i .fits) (1 + nodesLength limit + 8 * t .before .loop .k) (omega (arith, within t, k .before .pre .1)) in
-    subst (λ v. Decides (IsEdge v) (c .is-pair .result)) (ap halves (c .before .number-at .ensures) ∙ sym same) (c .is-pair .ensures)
+    subst (λ v. Decides (IsPair v) (c .is-pair .result)) (ap halves (c .before .number-at .ensures) ∙ sym same) (c .is-pair .ensures)
 
 loop-holds : tie.Need-loop-holds Inv-loop μ-loop
 loop-holds c = (omega arith, below-none _)

@@ -1,4 +1,4 @@
--- `readback::is_spelled` meets its contract: count, nodes and pairs make a diagram, and a diagram has each (proofs/SpelledDiagrams.antt). Assumes nothing.
+-- `readback::is_spelled` meets its contract: count, nodes and pairs make a diagram in lowest terms, which has each (proofs/SpelledDiagrams.antt). Assumes nothing.
 use native.Mathlib.Omega.{arith}
 use borrow.Author.Needs.{needs}
 use borrow.Author.Tests.{not-true, not-false}
@@ -14,13 +14,13 @@ cast-n : tie.Need-cast-n
 cast-n c = omega (arith, c .shared-slice-known2 .given 0)
 
 returns : tie.Need-returns
-returns c = decides-no (λ w. omega (arith, spelled-few _ _ w, c .if1 .taken))
+returns c = decides-no (λ w. omega (arith, spelled-few _ _ (w .is), c .if1 .taken))
 
 are-nodes-requires : tie.Need-are-nodes-requires
 are-nodes-requires c κs = search needs
 
 returns-2 : tie.Need-returns-2
-returns-2 c = decides-no (λ w. refutes (c .before .are-nodes .ensures) (not-true _ (c .if2 .taken)) (spelled-nodes _ _ w))
+returns-2 c = decides-no (λ w. refutes (c .before .are-nodes .ensures) (not-true _ (c .if2 .taken)) (spelled-nodes _ _ (w .is)))
 
 are-pairs-requires : tie.Need-are-pairs-requires
 are-pairs-requires c κs = search needs

@@ -16,13 +16,13 @@ use Rattle.filing.specs.Readable.{spelled}
 use Rattle.filing.specs.Records.{recordLength}
 use Rattle.parse.specs.Reading.{Accepted, answer}
 use Rattle.parse.specs.declared.Answer.the-variants as said
-use Rattle.tables.specs.Tables.{Holds, tableLayout}
+use Rattle.tables.specs.Tables.{IsKept, Holds, tableLayout}
 use Rattle.tables.specs.Diagrams.{diagram}
 use Rattle.tables.proofs.TableLayouts.{numbers-held}
 use Rattle.readback.specs.ReadBack.{wrong-length, no-diagram}
 use Rattle.cd.proofs.Decided.{refutes}
-use Rattle.readback.proofs.ReadBackLaws.{readable-spelled}
-use Rattle.readback.proofs.SpelledLaws.{readBack, spelled-is-diagram, spelled-numbers}
+use Rattle.readback.proofs.ReadBackLaws.{readable-kept}
+use Rattle.readback.proofs.SpelledLaws.{readBack, spelled-is-diagram, spelled-is-kept, spelled-numbers}
 use Rattle.readback.proofs.Tested.{tables-few, plain-numbers, not-laid, not-smallest, read-smallest}
 use Rattle.readback.proofs.read.Statement.{statement}
 use Rattle.readback.proofs.read.Tie as tie
@@ -46,26 +46,29 @@ refused-requires-2 c κs = search needs
 returns-2 : tie.Need-returns-2
 returns-2 c =
     let s = c .before .before in
-    (_, no-diagram (s .before .if1 .left) (λ r. refutes (s .is-spelled .ensures) (not-true _ (c .before .if2 .taken)) (readable-spelled limit _ r)), c .refused2 .ensures)
+    (_, no-diagram (s .before .if1 .left) (λ r. refutes (s .is-spelled .ensures) (not-true _ (c .before .if2 .taken)) (readable-kept limit _ r)), c .refused2 .ensures)
 
 spelled-requires : tie.Need-spelled-requires
-spelled-requires c κs = (c .before .before .if1 .left, c .before .is-spelled .ensures .only-when (not-false _ (c .if2 .left)))
+spelled-requires c κs = (c .before .before .if1 .left, c .before .is-spelled .ensures .only-when (not-false _ (c .if2 .left)) .is)
 
 of-requires : tie.Need-of-requires
 unfolding diagram
 of-requires c κs =
-    let w = c .before .before .is-spelled .ensures .only-when (not-false _ (c .before .if2 .left)) in
+    let w = c .before .before .is-spelled .ensures .only-when (not-false _ (c .before .if2 .left)) .is in
     (numbers-held (c .spelled .result) _ _ (c .spelled .ensures) (spelled-numbers limit _ w), subst (λ n. n ≤ limit) (sym (count-held _ _ _ (c .spelled .ensures))) (spelled-is-diagram limit _ w .few))
 
--- the bytes are as many as a record's; what they spell is a diagram, and the tables hold it
+-- the bytes are as many as a record's; what they spell is a diagram in lowest terms, and the tables hold it
 long : (o : tie.After-of) → length (o .before .before .before .before .before .before .args .s .now) ≡ recordLength limit
 long o = o .before .before .before .before .if1 .left
 
+kept : (o : tie.After-of) → IsKept limit (spelled limit (o .before .before .before .before .before .before .args .s .now))
+kept o = o .before .before .before .is-spelled .ensures .only-when (not-false _ (o .before .before .if2 .left))
+
 spells : (o : tie.After-of) → IsDiagram limit (spelled limit (o .before .before .before .before .before .before .args .s .now))
-spells o = o .before .before .before .is-spelled .ensures .only-when (not-false _ (o .before .before .if2 .left))
+spells o = kept o .is
 
 holds : (o : tie.After-of) → Holds limit (o .of .result) (readBack limit (o .before .before .before .before .before .before .args .s .now))
-holds o = o .of .ensures .2 _ _ (o .before .spelled .ensures) (spelled-is-diagram limit _ (spells o))
+holds o = o .of .ensures .2 _ _ (o .before .spelled .ensures) (spelled-is-kept limit _ (kept o))
 
 plain-requires : tie.Need-plain-requires
 plain-requires c κs = search needs

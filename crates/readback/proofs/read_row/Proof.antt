@@ -26,9 +26,9 @@ abbrev μ-loop : tie.MeasureT-loop
 place : (c : tie.In-loop Inv-loop μ-loop) → pairs (c .before .before .before .args .j) + c .before .loop .i < pairs limit
 place c = pair-below limit _ _ (c .loop-test .taken) (c .before .before .before .pre .0)
 
-few : (c : tie.Then1 Inv-loop μ-loop) → c .before .before .before .before .loop .e .count ≤ limit * limit
+few : (c : tie.Then1 Inv-loop μ-loop) → c .before .before .before .before .before .loop .e .count ≤ limit * limit
 few c =
-    let l = c .before .before .before in
+    let l = c .before .before .before .before in
     let s = l .before .before .before in
     rw (l .before .loop .inv .1 .count) (upto-few limit (s .args .s .now) _ _ (l .loop-test .taken) (s .pre .0))
 
@@ -53,11 +53,8 @@ add-number-at-2 c = omega (arith, place c)
 number-at-requires : tie.Need-number-at-requires Inv-loop μ-loop
 number-at-requires c κs = omega (arith, place c)
 
-cast-t16 : tie.Need-cast-t16 Inv-loop μ-loop
-cast-t16 c = search needs
-
-cast-t18 : tie.Need-cast-t18 Inv-loop μ-loop
-cast-t18 c = search needs
+edge-of-requires : tie.Need-edge-of-requires Inv-loop μ-loop
+edge-of-requires c κs = search needs
 
 eq-two-requires : tie.Need-eq-two-requires Inv-loop μ-loop
 eq-two-requires c κs = search needs
@@ -65,14 +62,14 @@ eq-two-requires c κs = search needs
 add-e : tie.Need-add-e Inv-loop μ-loop
 add-e c = omega (arith, few c)
 
-cast-t22 : tie.Need-cast-t22 Inv-loop μ-loop
-cast-t22 c = omega (arith, few c)
+cast-t18 : tie.Need-cast-t18 Inv-loop μ-loop
+cast-t18 c = omega (arith, few c)
 
 pair-place-requires : tie.Need-pair-place-requires Inv-loop μ-loop
 pair-place-requires c κs = search needs
 
-mul-t24 : tie.Need-mul-t24 Inv-loop μ-loop
-mul-t24 c = search needs
+mul-t20 : tie.Need-mul-t20 Inv-loop μ-loop
+mul-t20 c = search needs
 
 element-set-from-e : tie.Need-element-set-from-e Inv-loop μ-loop
 element-set-from-e c = search needs
@@ -86,9 +83,9 @@ loop-less c = search needs
 loop-again : tie.Need-loop-again Inv-loop μ-loop
 loop-again c =
     let q = c .before in
-    let l = q .before .before in
+    let l = q .before .before .before in
     let s = l .before .before .before in
-    let same = edge-halves (s .args .s .now) (λ k. l .before .before .shared-slice-known .given k .fits) (s .pre .1) _ _ (l .loop-test .taken) (s .pre .0) _ (q .before .number-at .ensures) in
+    let same = q .before .edge-of .ensures ∙ edge-halves (s .args .s .now) (λ k. l .before .before .shared-slice-known .given k .fits) (s .pre .1) _ _ (l .loop-test .taken) (s .pre .0) _ (q .before .before .number-at .ensures) in
     let two = ap isTwo (sym same) ∙ sym (q .eq-two .ensures) in
     let i = l .before .loop .inv in (
       search needs,
@@ -117,13 +114,12 @@ read-row-spec =
     mul-number-at-2
     add-number-at-2
     number-at-requires
-    cast-t16
-    cast-t18
+    edge-of-requires
     eq-two-requires
     add-e
-    cast-t22
+    cast-t18
     pair-place-requires
-    mul-t24
+    mul-t20
     element-set-from-e
     add-i
     loop-less

@@ -24,10 +24,10 @@ same-length : tie.Need-same-length
 same-length c = search needs
 
 returns : tie.Need-returns
-returns c ns es held is =
+returns c ns es held k =
     let o = c .before .before .before .before .before .before .before .before .before .before .before .before .before .before in
     let found = c .before .before .before .before .before .before .before .before .before .smallest in
-    record-written limit (o .of .result) (diagram ns es) (o .of .ensures .2 ns es held is) is (found .result .numbering) (found .ensures .0) (found .ensures .1) _ _ (c .before .before .lay .ensures)
+    record-written limit (o .of .result) (diagram ns es) (o .of .ensures .2 ns es held k) (k .is) (found .result .numbering) (found .ensures .0) (found .ensures .1) _ _ (c .before .before .lay .ensures)
 
 pub write-spec : {M : Type 1} → statement M
 write-spec = tie.close (tie.spec of-requires smallest-requires lay-requires same-length returns)

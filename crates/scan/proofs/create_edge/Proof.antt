@@ -2,12 +2,13 @@
 use Prim.Native.Nat.{ℕ, _≤_, _<_}
 use mathlib.Core.Bool.{true, false}
 use mathlib.Core.List.{List}
-use mathlib.Core.Path.{_≡_, sym, _∙_}
+use mathlib.Core.Path.{_≡_, sym, ap, _∙_}
 use lib.ListN.{length, getD, drop, drop-of-length-le}
 use borrow.Author.Needs.{needs}
 use Rattle.scan.specs.Bytes.{isDigit}
 use Rattle.scan.specs.Spaces.{skip}
 use Rattle.scan.specs.Edges.{empty, run, optional, edgeAt}
+use Rattle.scan.specs.Kept.{kept}
 use Rattle.scan.specs.declared.Before.the-variants.{Nothing}
 use Rattle.scan.specs.declared.EdgeRead.the-variants.{NoEdge}
 use Rattle.scan.proofs.Rest.{drop-at}
@@ -43,16 +44,18 @@ returns : tie.Need-returns
 returns c =
     let k = c .before .before .before .before in
     let e = sym (c .before .before .is-digit .ensures) ∙ c .before .if2 .taken in
-    c .parse-edge .ensures ∙ edge-at-digit _ _ _ (k .before .skip-whitespace .ensures .0) (k .if1 .taken) e
+    c .parse-edge .ensures ∙ ap kept (edge-at-digit _ _ _ (k .before .skip-whitespace .ensures .0) (k .if1 .taken) e)
 
 returns-2 : tie.Need-returns-2
+unfolding kept
 returns-2 c =
     let k = c .before .before .before in
     let e = sym (c .before .is-digit .ensures) ∙ c .if2 .left in
-    no-edge-at-other _ _ _ (k .before .skip-whitespace .ensures .0) (k .if1 .taken) e
+    ap kept (no-edge-at-other _ _ _ (k .before .skip-whitespace .ensures .0) (k .if1 .taken) e)
 
 returns-3 : tie.Need-returns-3
-returns-3 c = no-edge-at-end _ _ _ (c .before .skip-whitespace .ensures .0) (c .if1 .left)
+unfolding kept
+returns-3 c = ap kept (no-edge-at-end _ _ _ (c .before .skip-whitespace .ensures .0) (c .if1 .left))
 
 pub create-edge-spec : {M : Type 1} → statement M
 create-edge-spec =

@@ -1,11 +1,12 @@
 -- `scan::parse_edge` meets its contract. The invariant: the run from here on, with the parts so far, reads what the run from `at` on reads; a value kept up to
 -- 2 ^ 32 is enough for that, and each turn is the run's law at the byte's sort. The measure is what is left of the length. Assumes nothing.
 use Prim.Native.Nat.{_≤_, _<_, _-_, _^_}
-use mathlib.Core.Path.{_≡_, sym, _∙_}
+use mathlib.Core.Path.{_≡_, sym, ap, _∙_}
 use native.Mathlib.Omega.{arith}
 use lib.ListN.{length, drop}
 use borrow.Author.Needs.{needs}
 use Rattle.scan.specs.Edges.{empty, run}
+use Rattle.scan.specs.Kept.{kept}
 use Rattle.scan.specs.declared.Before.the-variants.{Nothing}
 use Rattle.scan.proofs.Runs.{run-at-digit, run-at-slash, run-at-slash-refused, run-at-terminator, run-at-terminator-refused, run-at-other, run-at-end, closes-small, digit-of-sort}
 use Rattle.scan.proofs.parse_edge.Statement.{statement}
@@ -75,12 +76,13 @@ sub-t15 : tie.Need-sub-t15 Inv-loop μ-loop
 sub-t15 c = search needs
 
 returns : tie.Need-returns Inv-loop μ-loop
+unfolding kept
 returns c =
     let m = c .before .before .before .before in
     let l = m .before .before in
     let t = sym (m .sort-of .ensures) ∙ c .before .before .enum-told2 .given .1 in
     let e = sym (c .before .closes .ensures) ∙ c .if1 .left in
-    run-at-slash-refused _ _ _ _ (l .loop-test .taken) t e ∙ l .before .loop .inv .3
+    ap kept (run-at-slash-refused _ _ _ _ (l .loop-test .taken) t e ∙ l .before .loop .inv .3)
 
 enum-told-3 : tie.Need-enum-told-3 Inv-loop μ-loop
 enum-told-3 c = search needs
@@ -100,31 +102,34 @@ returns-2 c =
     let l = m .before .before in
     let t = sym (m .sort-of .ensures) ∙ c .before .before .before .enum-told3 .given .1 in
     let e = sym (c .before .before .closes2 .ensures) ∙ c .before .if2 .taken in
-    c .last-two .ensures ∙ run-at-terminator _ _ _ _ (l .loop-test .taken) t e ∙ l .before .loop .inv .3
+    c .last-two .ensures ∙ ap kept (run-at-terminator _ _ _ _ (l .loop-test .taken) t e ∙ l .before .loop .inv .3)
 
 sub-t19 : tie.Need-sub-t19 Inv-loop μ-loop
 sub-t19 c = search needs
 
 returns-3 : tie.Need-returns-3 Inv-loop μ-loop
+unfolding kept
 returns-3 c =
     let m = c .before .before .before .before in
     let l = m .before .before in
     let t = sym (m .sort-of .ensures) ∙ c .before .before .enum-told3 .given .1 in
     let e = sym (c .before .closes2 .ensures) ∙ c .if2 .left in
-    run-at-terminator-refused _ _ _ _ (l .loop-test .taken) t e ∙ l .before .loop .inv .3
+    ap kept (run-at-terminator-refused _ _ _ _ (l .loop-test .taken) t e ∙ l .before .loop .inv .3)
 
 enum-told-4 : tie.Need-enum-told-4 Inv-loop μ-loop
 enum-told-4 c = search needs
 
 returns-4 : tie.Need-returns-4 Inv-loop μ-loop
+unfolding kept
 returns-4 c =
     let m = c .before .before in
     let l = m .before .before in
     let t = sym (m .sort-of .ensures) ∙ c .enum-told4 .given .1 in
-    run-at-other _ _ _ _ (l .loop-test .taken) t ∙ l .before .loop .inv .3
+    ap kept (run-at-other _ _ _ _ (l .loop-test .taken) t ∙ l .before .loop .inv .3)
 
 returns-5 : tie.Need-returns-5 Inv-loop μ-loop
-returns-5 c = run-at-end _ _ _ _ (c .loop-test .left) ∙ c .before .loop .inv .3
+unfolding kept
+returns-5 c = ap kept (run-at-end _ _ _ _ (c .loop-test .left) ∙ c .before .loop .inv .3)
 
 pub parse-edge-spec : {M : Type 1} → statement M
 parse-edge-spec =

@@ -1,7 +1,8 @@
 //! Prints what `Cd::parse` makes of each line of standard input, one line each:
 //!
 //! * accepted: `ok`, the counts of nodes and of stored edges, minimal 1 or 0; for each node `o`, or `x` or `s` with the
-//!   sixteen hex digits of its value's bits; for each stored edge, in the order stored, `a-b:num/den` with a ≤ b;
+//!   sixteen hex digits of its value's bits; for each stored edge, in the order stored, `a-b:num/den` with a ≤ b,
+//!   reduced as ticket K2 has it: "Against the Rust, stored edges are compared after reducing the Rust's";
 //! * refused: `no`, document 01's number and fields;
 //! * `?` where the Rust has no answer: it panics, or the text is beyond a limit of document 01.
 
@@ -9,6 +10,7 @@ use std::{fmt::Write, io};
 
 use miratope::{
     cox::cd::{Cd, Node},
+    diagrams::Fraction,
     lines,
 };
 
@@ -36,7 +38,7 @@ fn accepted(cd: &Cd) -> String {
     }
     for edge in cd.raw_edges() {
         let (a, b) = (edge.source().index(), edge.target().index());
-        let (num, den) = (edge.weight.num, edge.weight.den);
+        let Fraction { num, den } = Fraction::of(edge.weight).lowest();
         write!(line, " {}-{}:{num}/{den}", a.min(b), a.max(b)).unwrap();
     }
     line

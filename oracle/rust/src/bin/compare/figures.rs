@@ -42,7 +42,7 @@ impl Figure {
         for edge in cd.raw_edges() {
             let (a, b) = (edge.source().index(), edge.target().index());
             if a != b {
-                figure.join(a, b, Fraction { num: edge.weight.num, den: edge.weight.den }.lowest());
+                figure.join(a, b, Fraction::of(edge.weight).lowest());
             }
         }
         figure

@@ -32,14 +32,9 @@ pub fn walk(dice: &mut Dice, text: &mut Vec<u8>, tokens: usize) {
         if let Some(previous) = previous.replace(here).filter(|_| !dice.one_in(5)) {
             let again = joined[previous][here] || here >= count || previous >= count;
             let two = dice.one_in(12) || again && !careless;
-            let edge = if two { dice.pick(&TWOS) } else { dice.pick(&EDGES) };
-            text.extend(edge.bytes());
             joined[previous][here] |= !two;
             joined[here][previous] |= !two;
-            if dice.one_in(16) {
-                text.push(b' ');
-                spaces(dice, text);
-            }
+            step(dice, text, two);
         }
         if makes {
             node(dice, text);
@@ -51,6 +46,36 @@ pub fn walk(dice: &mut Dice, text: &mut Vec<u8>, tokens: usize) {
     }
     // Nodes that references have counted on.
     text.extend((made..count).map(|_| b'o'));
+}
+
+/// An edge of a walk, with spaces behind it at times.
+fn step(dice: &mut Dice, text: &mut Vec<u8>, two: bool) {
+    match two {
+        true => text.extend(dice.pick(&TWOS).bytes()),
+        false if dice.one_in(8) => push_fraction(text, multiplied(dice)),
+        false => text.extend(dice.pick(&EDGES).bytes()),
+    }
+    if dice.one_in(16) {
+        text.push(b' ');
+        spaces(dice, text);
+    }
+}
+
+/// The terms of a fraction, twos among them, both times the same number, at times the largest that 32 bits allow.
+fn multiplied(dice: &mut Dice) -> (usize, usize) {
+    let bits = dice.within(1, 16);
+    let num = dice.within(2, 1 << bits);
+    let den = dice.within(1, num - 1);
+    let most = u32::MAX as usize / num;
+    let times = [dice.within(2, 9), dice.within(1, most), most];
+    let times = dice.pick(&times);
+    (num * times, den * times)
+}
+
+fn push_fraction(text: &mut Vec<u8>, (num, den): (usize, usize)) {
+    push_number(text, num as u64);
+    text.push(b'/');
+    push_number(text, den as u64);
 }
 
 fn spaces(dice: &mut Dice, text: &mut Vec<u8>) {
@@ -169,8 +194,14 @@ pub fn pieces(dice: &mut Dice, text: &mut Vec<u8>, pieces: &[&str], most: usize)
     }
 }
 
-/// One to four parts about the limits of 32 bits and of fractions, or empty.
+/// One to four parts about the limits of 32 bits and of fractions, or empty; or terms with a common divisor, which are 7 the
+/// wrong way round or alike.
 fn edge(dice: &mut Dice, text: &mut Vec<u8>) {
+    if dice.one_in(4) {
+        let (num, den) = multiplied(dice);
+        let typed = dice.pick(&[(num, den), (num, den), (den, num), (den, den)]);
+        return push_fraction(text, typed);
+    }
     for part in 0..dice.within(1, 4) {
         if part > 0 {
             text.push(b'/');

@@ -4,16 +4,18 @@ use crate::spelling::{push_number, push_reference};
 
 /// Document 01's "Texts to try", docs/DIFFERENCES.md's, and a few beside them.
 #[rustfmt::skip]
-const NAMED: [&str; 46] = [
+const NAMED: [&str; 47] = [
     "", "*a", "x5/3/2o", "x4/2o", "x2*c", "x3*c", "x3/o", "x3", "x ", "(", "()", "(nan)", "x3_", "x4294967296o",
     "ooooooooo", "oooooooooo", "x4o", "o4x", "x6/2o", "(0)", "(-0)", "x4o3o", "x3*a", "x1o", "x3o3*a", "((", "(1",
     "x\t", "*a ", "*a3*a", "*-b3x", "x2*-c", "(1e23)", "(0e23)", "(1e0001)", "(1e999)", "(1e23)_", "\u{a0}x",
-    "x\u{85}x", "(\u{e9})", "(1\u{e9})", "\u{e9}", "x3\u{e9}", "(\u{e9}1)", "x4o4o", "(inf)3o",
+    "x\u{85}x", "(\u{e9})", "(1\u{e9})", "\u{e9}", "x3\u{e9}", "(\u{e9}1)", "x4o4o", "(inf)3o", "x4/6o",
 ];
 
 pub fn all() -> Vec<Vec<u8>> {
     let mut texts: Vec<Vec<u8>> = NAMED.iter().map(|text| text.as_bytes().to_vec()).collect();
     edges(&mut texts);
+    multiples(&mut texts);
+    many_steps(&mut texts);
     literals(&mut texts);
     words(&mut texts);
     nodes(&mut texts);
@@ -37,6 +39,44 @@ fn edges(texts: &mut Vec<Vec<u8>>) {
     for byte in 0..=255 {
         texts.extend([&b"x3"[..], b"x5/2", b"x3/", b"x3 "].map(|start| [start, &[byte, b'o']].concat()));
     }
+}
+
+const LARGEST: u64 = u32::MAX as u64;
+
+/// Fractions of small terms, those of refusal 7 among them, both times a power of two or times the largest number that 32 bits
+/// allow: before a node, in a loop, and before a missing node, which a two does not see.
+fn multiples(texts: &mut Vec<Vec<u8>>) {
+    for num in 1..=12 {
+        for den in 1..=12 {
+            let most = LARGEST / num.max(den);
+            let powers = (0..32).map(|bits| 1 << bits).filter(|&power| power < most);
+            for times in powers.chain([3, 15, 65535, 65537, most - 1, most]) {
+                let (num, den) = (num * times, den * times);
+                texts.extend(["o", "*a", "*z"].map(|end| format!("x{num}/{den}{end}").into_bytes()));
+            }
+        }
+    }
+}
+
+/// Neighbouring Fibonacci numbers, which take Euclid's algorithm the most steps, and their multiples; every divisor of
+/// 2^32 - 1; primes and products of two.
+fn many_steps(texts: &mut Vec<Vec<u8>>) {
+    let (mut a, mut b) = (1, 2);
+    let mut fractions = Vec::new();
+    while b <= LARGEST {
+        let most = LARGEST / b;
+        fractions.extend([(b, a), (b * most, a * most), (b * most, a * most - 1)]);
+        (a, b) = (b, a + b);
+    }
+    for chosen in 0..32 {
+        let primes = [3, 5, 17, 257, 65537].into_iter().enumerate();
+        let divisor: u64 = primes.filter(|(i, _)| chosen >> i & 1 == 1).map(|(_, prime)| prime).product();
+        fractions.extend([(LARGEST, divisor), (LARGEST, LARGEST - divisor)]);
+    }
+    let large =
+        [4_294_967_291, 4_294_967_279, 2_147_483_647, 2_147_483_629, 65521 * 65519, 65521 * 65497, 65521, 65519, 2];
+    fractions.extend(large.iter().flat_map(|&num| large.map(|den| (num, den))));
+    texts.extend(fractions.iter().map(|(num, den)| format!("x{num}/{den}o").into_bytes()));
 }
 
 /// 14 to 16 digits with the point at every place, exponents of one to four digits, all powers about −22 and 22.

@@ -1,0 +1,75 @@
+-- Document 02, K2: "Matrix bits don't change, since both quotients round the same fraction". The edges as typed have the matrix of the edges kept, entry by
+-- entry, and so what the calls show of a text is what its edges as typed would show. Numbers of 32 bits are doubles exactly. Assumes nothing.
+use mathlib.Core.List.{List, [], _∷_, map}
+use mathlib.Core.Path.{_≡_, refl, ap}
+use Prim.Native.Nat.{ℕ}
+use native.Mathlib.Omega.{arith}
+use lib.Dec.{eqb}
+use lib.ListN.{length}
+use Rattle.float.specs.Pick.{pick}
+use Rattle.float.proofs.Quotients.{same-quotient}
+use Rattle.cd.specs.Diagrams.{Stored, joins}
+use Rattle.cd.specs.Edges.{fraction, reduced}
+use Rattle.cd.specs.declared.Edge.{Edge}
+use Rattle.cd.specs.declared.Node.{Node}
+use Rattle.cox.specs.Matrix.{quotient, between, matrix}
+use Rattle.cox.specs.Squares.{one}
+use Rattle.cox.specs.Squares as squares
+use Rattle.filing.specs.Diagrams.{IsEdge}
+use Rattle.filing.proofs.Gcd.{lowest-num-le, lowest-den-le, lowest-positive, lowest-is-same}
+use Rattle.lexicon.specs.All.{All, nil, cons}
+use Rattle.lexicon.proofs.Fileable.{valid-edge}
+use Rattle.lexicon.proofs.Sound.{SoundEdge, sound-edges}
+use Rattle.normals.specs.Mirrors.{mirrors}
+use Rattle.parse.specs.Reading.{Reading, Accepted, Refused, keptEdge, kept, typed, read}
+use Rattle.geometry.specs.Points.{shownGenerator, generatorOfText, shownReflections, reflectionsOfText}
+use Rattle.geometry.specs.Squares.{square, shownMirrors, matrixOf, mirrorsOf}
+
+-- ---- the entries
+
+-- NUM AND DEN IN LOWEST TERMS HAVE THE SAME QUOTIENT
+pub quotient-reduced : (e : Edge) → IsEdge (fraction e) → quotient (reduced e) ≡ quotient e
+unfolding quotient reduced
+quotient-reduced e h =
+    let x = fraction e in
+    let n = lowest-num-le x in
+    let d = lowest-den-le x in
+    same-quotient _ _ (e .num) (e .den) (omega (arith, n, h .fits)) (omega (arith, d, h .fits, h .above-one)) (omega (arith, h .fits)) (omega (arith, h .fits, h .above-one))
+    (lowest-positive x (h .den-pos)) (h .den-pos) (lowest-is-same x)
+
+between-kept : {n : ℕ} (ts : List Stored) (i j : ℕ) → All (SoundEdge n) ts → between (map keptEdge ts) i j ≡ between ts i j
+unfolding between joins
+between-kept [] i j nil = refl
+between-kept (s ∷ ts) i j (cons h hs) = rw (quotient-reduced (s .edge) (valid-edge (s .edge) (h .num-fits) (h .valid)), between-kept ts i j hs)
+
+-- THE MATRIX OF THE EDGES KEPT IS THE MATRIX OF THE EDGES AS TYPED, ENTRY BY ENTRY
+pub same-entry : (s : List ℕ) (ns : List Node) (ts : List Stored) → typed s ≡ Accepted ns ts → (i j : ℕ) → matrix (map keptEdge ts) i j ≡ matrix ts i j
+unfolding matrix
+same-entry s ns ts h i j = ap (pick (eqb i j) one) (between-kept ts i j (sound-edges s ns ts h))
+
+-- ---- the calls
+
+-- what is shown of a matrix does not tell the edges as typed from those kept
+shown-as-typed : {A : Type 0} (f : Reading → A) → ((ns : List Node) (es ts : List Stored) → matrix es ≡ matrix ts → f (Accepted ns es) ≡ f (Accepted ns ts)) → (s : List ℕ) → f (read s) ≡ f (typed s)
+unfolding read typed kept
+shown-as-typed f same s = of (typed s) refl
+  where
+    of : (x : Reading) → typed s ≡ x → f (kept x) ≡ f x
+    of (Accepted ns ts) h = same ns (map keptEdge ts) ts (λ t i j. same-entry s ns ts h i j t)
+    of (Refused r) h = refl
+
+pub matrix-as-typed : (s : List ℕ) → matrixOf (read s) ≡ matrixOf (typed s)
+unfolding matrixOf
+matrix-as-typed s = shown-as-typed matrixOf (λ ns es ts h. ap (square (length ns)) h) s
+
+pub mirrors-as-typed : (s : List ℕ) → mirrorsOf (read s) ≡ mirrorsOf (typed s)
+unfolding mirrorsOf
+mirrors-as-typed s = shown-as-typed mirrorsOf (λ ns es ts h. ap (λ (m : squares.Square). shownMirrors (length ns) (mirrors m (length ns))) h) s
+
+pub generator-as-typed : (s : List ℕ) → generatorOfText (read s) ≡ generatorOfText (typed s)
+unfolding generatorOfText
+generator-as-typed s = shown-as-typed generatorOfText (λ ns es ts h. ap (λ (m : squares.Square). shownGenerator ns (mirrors m (length ns))) h) s
+
+pub reflections-as-typed : (s : List ℕ) → reflectionsOfText (read s) ≡ reflectionsOfText (typed s)
+unfolding reflectionsOfText
+reflections-as-typed s = shown-as-typed reflectionsOfText (λ ns es ts h. ap (λ (m : squares.Square). shownReflections (length ns) (mirrors m (length ns))) h) s
