@@ -216,10 +216,9 @@ pub fn reduced(e: Edge) -> Edge
         return e;
     }
     let g = gcd(e.num, e.den);
-    Edge {
-        num: e.num / g,
-        den: e.den / g,
-    }
+    let num = e.num / g;
+    let den = e.den / g;
+    Edge { num: num, den: den }
 }
 
 // Where a reference leads.

@@ -10,7 +10,6 @@ use lib.ListN.{length, drop, length-drop}
 use Rattle.float.specs.Pick.{pick}
 use Rattle.cd.specs.Edges.{isEdge}
 use Rattle.cd.specs.declared.CdError.{CdError}
-use Rattle.cd.specs.declared.CdError.the-variants.{InvalidEdge}
 use Rattle.cd.specs.declared.Edge.{Edge}
 use Rattle.scan.specs.Bytes.{isDigit}
 use Rattle.scan.specs.Spaces.{skip}
@@ -48,14 +47,14 @@ next-sorted Slash a b c d = b
 next-sorted Terminator a b c d = c
 next-sorted Other a b c d = d
 
-next-edge : (t : Bool) (num den i hi : ℕ) → isEdge num den ≡ t → i ≤ hi → Next i hi (pick t (Read (record { num = num; den = den }) i) (Refused (InvalidEdge num den (i - 1))))
-next-edge true num den i hi v h = read v (le-refl i) h
-next-edge false num den i hi v h = refused
+next-edge : (t : Bool) (num den i hi : ℕ) (r : CdError) → isEdge num den ≡ t → i ≤ hi → Next i hi (pick t (Read (record { num = num; den = den }) i) (Refused r))
+next-edge true num den i hi r v h = read v (le-refl i) h
+next-edge false num den i hi r v h = refused
 
 next-last-two : (before : Before) (last i hi : ℕ) → i ≤ hi → Next i hi (lastTwo before last i)
 unfolding lastTwo edge
-next-last-two Nothing last i hi h = next-edge (isEdge last 1) last 1 i hi refl h
-next-last-two (Number n) last i hi h = next-edge (isEdge n last) n last i hi refl h
+next-last-two Nothing last i hi h = next-edge (isEdge last 1) last 1 i hi _ refl h
+next-last-two (Number n) last i hi h = next-edge (isEdge n last) n last i hi _ refl h
 
 next-run : (bs : List ℕ) (i : ℕ) (before : Before) (p : Part) → Next i (i + length bs) (run bs i before p)
 unfolding run

@@ -14,15 +14,15 @@ returns c = rw (c .if1 .taken) (sym (ap edgeOf (lowest-whole _)))
 gcd-requires : tie.Need-gcd-requires
 gcd-requires c κs = search needs
 
-div-t4 : tie.Need-div-t4
-div-t4 c = rw (c .before .gcd .ensures) (gcd-positive _ _ (c .before .before .before .before .pre))
+div-num : tie.Need-div-num
+div-num c = rw (c .before .gcd .ensures) (gcd-positive _ _ (c .before .before .before .before .pre))
 
-div-t5 : tie.Need-div-t5
-div-t5 c = rw (c .before .before .gcd .ensures) (gcd-positive _ _ (c .before .before .before .before .before .pre))
+div-den : tie.Need-div-den
+div-den c = rw (c .before .before .gcd .ensures) (gcd-positive _ _ (c .before .before .before .before .before .pre))
 
 returns-2 : tie.Need-returns-2
 unfolding reduced lowest
 returns-2 c = rw (c .before .before .gcd .ensures)
 
 pub reduced-spec : {M : Type 1} → statement M
-reduced-spec = tie.close (tie.spec returns gcd-requires div-t4 div-t5 returns-2)
+reduced-spec = tie.close (tie.spec returns gcd-requires div-num div-den returns-2)
