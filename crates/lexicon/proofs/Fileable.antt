@@ -65,7 +65,7 @@ sound-number (snub f h) = h
 -- ---- edges
 
 -- den is above 0 and below num
-pub valid-edge : (e : Edge) → e .num < 2 ^ 32 → isEdge (e .num) (e .den) ≡ true → IsEdge (fraction e)
+valid-edge : (e : Edge) → e .num < 2 ^ 32 → isEdge (e .num) (e .den) ≡ true → IsEdge (fraction e)
 valid-edge e f h = record { fits = f; den-pos = den-positive e h; above-one = den-below e h }
 
 kept-pair : (e : Edge) → IsEdge (fraction e) → IsPair (fraction (reduced e))

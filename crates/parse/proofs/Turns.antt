@@ -1,5 +1,6 @@
--- The loop that reads a text, in the terms of its locals: what is read from here on gives what the whole text gives (`Kept` before a node, `After` behind
--- one). Each turn reads a byte, so the turns allowed, at first the length of the text, never run out. Assumes nothing.
+-- The loop that reads a text, in the terms of its locals: what is read from here on gives what the whole text gives (`Due` before a node, `After` behind
+-- one). Each turn reads a byte, so the turns allowed, at first the length of the text, never run out. The code's queue has edges in smallest numbers;
+-- `typed` is the queue as document 01 has it. Assumes nothing.
 use Prim.Native.Nat.{ℕ, zero, suc, _+_, _*_, _≤_, _<_}
 use mathlib.Core.List.{List, [], _∷_, _++_, map, map-append}
 use mathlib.Core.Path.{_≡_, refl, sym, ap, _∙_}
@@ -56,14 +57,14 @@ waits q = take (q .count) (q .at)
 unfoldable pub joint : Edge → Joint
 joint e = pick (ltb 0 (e .num)) (With e) Without
 
--- what is read of the text: the queue as typed
+-- what was read of the text, its queue as typed
 abbrev pub read-of : List Place → ℕ → List EdgeRef → NodeRef → Seen
 read-of nodes count typed prev = record { nodes = held nodes count; queue = typed; prev = prev }
 
 -- ---- before a node
 
 -- the edges that wait, and the one read last, are those typed in smallest numbers
-pub record Kept (s : List ℕ) (start : ℕ) (nodes : List Place) (count : ℕ) (q : Queue) (at : ℕ) (prev : NodeRef) (e : Edge) : Type 0 where
+pub record Due (s : List ℕ) (start : ℕ) (nodes : List Place) (count : ℕ) (q : Queue) (at : ℕ) (prev : NodeRef) (e : Edge) : Type 0 where
   pub places : nodes ≡ padded (place Unringed) limit (take count nodes)
   pub few : count ≤ limit
   pub slots : length (q .at) ≡ 128
@@ -78,10 +79,10 @@ pub record Kept (s : List ℕ) (start : ℕ) (nodes : List Place) (count : ℕ) 
   pub enough : length s ≤ left + at
   pub going : onto (nodeIn s at edge (read-of nodes count typed prev)) (turns left s) ≡ textFrom s start
 
-pub kept-start : (s : List ℕ) (start : ℕ) (nodes : List Place) (slots : List EdgeRef) → start ≤ length s → nodes ≡ padded (place Unringed) limit [] → length slots ≡ 128
-    → Kept s start nodes 0 (record { at = slots; count = 0 }) start (Absolute 0) (record { num = 0; den = 0 })
+pub due-start : (s : List ℕ) (start : ℕ) (nodes : List Place) (slots : List EdgeRef) → start ≤ length s → nodes ≡ padded (place Unringed) limit [] → length slots ≡ 128
+    → Due s start nodes 0 (record { at = slots; count = 0 }) start (Absolute 0) (record { num = 0; den = 0 })
 unfolding textFrom joint
-kept-start s start nodes slots h p l =
+due-start s start nodes slots h p l =
     record {
       places = p;
       few = omega arith;
@@ -100,7 +101,7 @@ kept-start s start nodes slots h p l =
 
 -- ---- a node or a reference was read, and a node was stored
 
-pub record Found {s : List ℕ} {start : ℕ} {nodes : List Place} {count : ℕ} {q : Queue} {at : ℕ} {prev : NodeRef} {e : Edge} (k : Kept s start nodes count q at prev e)
+pub record Found {s : List ℕ} {start : ℕ} {nodes : List Place} {count : ℕ} {q : Queue} {at : ℕ} {prev : NodeRef} {e : Edge} (k : Due s start nodes count q at prev e)
     (nodes′ : List Place) (count′ : ℕ) (this : NodeRef) (next : ℕ) : Type 0 where
   pub places : nodes′ ≡ padded (place Unringed) limit (take count′ nodes′)
   pub few : count′ ≤ limit
@@ -141,7 +142,7 @@ node-is : (s : List ℕ) (at i : ℕ) (j : Joint) (st : Seen) (x : NodeRead) →
 unfolding nodeIn
 node-is s at i j st x h k = rw (← h, ← k)
 
-module _ {s : List ℕ} {start : ℕ} {nodes : List Place} {count : ℕ} {q : Queue} {at : ℕ} {prev : NodeRef} {e : Edge} (k : Kept s start nodes count q at prev e)
+module _ {s : List ℕ} {start : ℕ} {nodes : List Place} {count : ℕ} {q : Queue} {at : ℕ} {prev : NodeRef} {e : Edge} (k : Due s start nodes count q at prev e)
     (i : ℕ) (x : NodeRead) (skipped : i ≡ skip (drop at s) at) (after : at ≤ i) (inside : i ≤ length s) (read : x ≡ nodeAt (drop i s) i) where
   abbrev st : Seen
   st = read-of nodes count (k .typed) prev
@@ -192,7 +193,7 @@ pub record After (s : List ℕ) (start at : ℕ) (nodes : List Place) (count : �
   pub enough : length s < left + next
   pub turned : turns left s next (read-of nodes count typed prev) ≡ textFrom s start
 
-module _ {s : List ℕ} {start : ℕ} {nodes : List Place} {count : ℕ} {q : Queue} {at : ℕ} {prev : NodeRef} {e : Edge} (k : Kept s start nodes count q at prev e)
+module _ {s : List ℕ} {start : ℕ} {nodes : List Place} {count : ℕ} {q : Queue} {at : ℕ} {prev : NodeRef} {e : Edge} (k : Due s start nodes count q at prev e)
     {nodes′ : List Place} {count′ : ℕ} {this : NodeRef} {next : ℕ} (f : Found k nodes′ count′ this next) where
   -- the queue with the edge read before this node, as typed and as it waits
   abbrev longer : List EdgeRef
@@ -276,7 +277,7 @@ module _ {s : List ℕ} {start at : ℕ} {nodes : List Place} {count : ℕ} {q :
     unfolding afterEdge
     edge-refused r h = sym (turning (edge.Refused r) (kept-refused _ r (sym read ∙ h)))
 
-    pub no-edge : x ≡ edge.NoEdge → Kept s start nodes count q next prev (record { num = 0; den = 0 })
+    pub no-edge : x ≡ edge.NoEdge → Due s start nodes count q next prev (record { num = 0; den = 0 })
     unfolding afterEdge joint
     no-edge h =
         record {
@@ -295,7 +296,7 @@ module _ {s : List ℕ} {start at : ℕ} {nodes : List Place} {count : ℕ} {q :
           going = turning edge.NoEdge (kept-none _ (sym read ∙ h));
         }
 
-    pub an-edge : (e : Edge) (to : ℕ) → x ≡ edge.Read e to → Kept s start nodes count q to prev e × (next < to)
+    pub an-edge : (e : Edge) (to : ℕ) → x ≡ edge.Read e to → Due s start nodes count q to prev e × (next < to)
     unfolding afterEdge joint
     an-edge e to h =
         let t = kept-read _ e to (sym read ∙ h) in

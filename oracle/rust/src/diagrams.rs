@@ -41,6 +41,10 @@ impl Fraction {
         Self { num: edge.num, den: edge.den }
     }
 
+    pub fn is_lowest(self) -> bool {
+        self == self.lowest()
+    }
+
     pub fn lowest(self) -> Self {
         let divisor = gcd(self.num, self.den);
         Self { num: self.num / divisor, den: self.den / divisor }

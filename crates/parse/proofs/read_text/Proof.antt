@@ -1,4 +1,4 @@
--- `parse::read_text` meets its contract. The invariant of the loop over the text is `Kept` of proofs/Turns.antt, with what is left of the length as its
+-- `parse::read_text` meets its contract. The invariant of the loop over the text is `Due` of proofs/Turns.antt, with what is left of the length as its
 -- measure. At its end the answer is that of the queue joined (`Ended`); of the loop that joins, the invariant is `Midway` of proofs/JoinLaws.antt: the
 -- edges stored so far stand in their places, and the rest of the queue joined after them is the whole queue joined. Assumes nothing.
 use Prim.Native.Nat.{_+_, _≤_, _-_}
@@ -18,12 +18,12 @@ use Rattle.cd.proofs.Stored.{nothing-stored}
 use Rattle.parse.specs.Text.{Outcome}
 use Rattle.parse.specs.Reading.{joined, kept, answer}
 use Rattle.parse.proofs.JoinLaws.{Midway, next-waiting, ends-below, over, dropped, missing, repeated, added}
-use Rattle.parse.proofs.Turns.{Kept, Found, After, Ended, waits, kept-start, found-reference, found-node, node-refused, node-tenth, edge-waits, none-waits, ended, edge-refused, no-edge, an-edge, join-refused, join-accepted}
+use Rattle.parse.proofs.Turns.{Due, Found, After, Ended, waits, due-start, found-reference, found-node, node-refused, node-tenth, edge-waits, none-waits, ended, edge-refused, no-edge, an-edge, join-refused, join-accepted}
 use Rattle.parse.proofs.read_text.Statement.{statement}
 use Rattle.parse.proofs.read_text.Tie as tie
 
 abbrev Inv-loop : tie.InvT-loop
-Inv-loop s start none first nodes₀ count₀ queue₀ at₀ prev₀ edge₀ nodes count queue at prev edge = Kept s start nodes count queue at prev edge
+Inv-loop s start none first nodes₀ count₀ queue₀ at₀ prev₀ edge₀ nodes count queue at prev edge = Due s start nodes count queue at prev edge
 
 abbrev μ-loop : tie.MeasureT-loop
 μ-loop s start none first nodes₀ count₀ queue₀ at₀ prev₀ edge₀ nodes count queue at prev edge = length s - at
@@ -69,7 +69,7 @@ next c =
     next-waiting (q .at) (q .count) (l .loop2 .k) blank (omega (arith, e .slots, e .fits)) (c .loop2-test .taken)
 
 loop-holds : tie.Need-loop-holds Inv-loop μ-loop Inv-loop2 μ-loop2
-loop-holds c = kept-start _ _ _ _ (c .before .pre .0) (sym (padded-blank (place Unringed) limit)) refl
+loop-holds c = due-start _ _ _ _ (c .before .pre .0) (sym (padded-blank (place Unringed) limit)) refl
 
 skip-whitespace-requires : tie.Need-skip-whitespace-requires Inv-loop μ-loop Inv-loop2 μ-loop2
 skip-whitespace-requires c κs = c .loop .inv .upto

@@ -4,7 +4,7 @@ use std::process::ExitCode;
 
 use miratope::{
     cox::{cd::Cd, Cox},
-    diagrams::{Diagram, LIMIT},
+    diagrams::{Diagram, Fraction, LIMIT},
     families,
 };
 
@@ -28,6 +28,7 @@ const INFINITE: usize = 78;
 const RECORDS: usize = 79;
 const FAMILIES: usize = 80;
 const LONG: usize = 81;
+const UNREDUCED: usize = 82;
 
 /// The refusals in which the port departs from the Rust, as docs/DIFFERENCES.md has them.
 const MEANINGS: [(usize, &str); 7] = [
@@ -54,6 +55,7 @@ fn labels() -> Vec<String> {
     labels.push("records written and read back".into());
     labels.push("families".into());
     labels.push("of the accepted texts those of 200 bytes or more".into());
+    labels.push("of the accepted texts those whose edges the Rust stores in other than lowest terms".into());
     labels
 }
 
@@ -108,6 +110,9 @@ impl Beside<'_> {
                 tally.count(ACCEPTED + cd.node_count());
                 if text.len() >= 200 {
                     tally.count(LONG);
+                }
+                if cd.raw_edges().iter().any(|edge| !Fraction::of(edge.weight).is_lowest()) {
+                    tally.count(UNREDUCED);
                 }
                 self.accepted(text, &cd, window, tally)
             }
