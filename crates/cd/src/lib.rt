@@ -193,32 +193,39 @@ pub fn eq_two(e: Edge) -> bool
     e.num as u64 == 2 * (e.den as u64)
 }
 
-// The greatest common divisor, by Euclid's algorithm.
+// The greatest common divisor, by Euclid's algorithm, which a remainder of 1 ends too.
 pub fn gcd(a: u32, b: u32) -> u32
     ensures { λ r. ⌜ r ≡ the-gcd a b ⌝ }
 {
     let mut x = a;
     let mut y = b;
-    while y != 0 {
+    while 1 < y {
         let rest = x % y;
         x = y;
         y = rest;
     }
-    x
+    if y == 1 { 1 } else { x }
 }
 
-// The edge in smallest numbers. (Most edges are whole numbers, which have nothing to divide.)
+// The edge in smallest numbers. (Most edges are whole numbers, and most fractions have a remainder of 0 or 1: no loop for these.)
 pub fn reduced(e: Edge) -> Edge
     requires { ⌜ 0 < e .den ⌝ }
     ensures { λ r. ⌜ r ≡ the-reduced e ⌝ }
 {
-    if e.den == 1 {
-        return e;
+    let rest = e.num % e.den;
+    if 1 < rest {
+        let g = gcd(e.den, rest);
+        let num = e.num / g;
+        let den = e.den / g;
+        return Edge { num: num, den: den };
     }
-    let g = gcd(e.num, e.den);
-    let num = e.num / g;
-    let den = e.den / g;
-    Edge { num: num, den: den }
+    if rest == 0 {
+        return Edge {
+            num: e.num / e.den,
+            den: 1,
+        };
+    }
+    e
 }
 
 // Where a reference leads.

@@ -2,9 +2,9 @@
 -- fractions with equal cross products have equal lowest terms. Assumes nothing.
 use mathlib.Core.Logic.{_↔_}
 use mathlib.Core.Path.{_≡_, refl, sym, ap, _∙_}
-use Prim.Native.Nat.{ℕ, zero, suc, _*_, _%_, _≤_, _<_, _∣_}
+use Prim.Native.Nat.{ℕ, zero, suc, _*_, _/_, _%_, _≤_, _<_, _∣_}
 use native.Mathlib.Nat.{le-refl, zero-lt-suc, not-suc-le-zero, mul-zero, mul-comm, mul-assoc, mul-sub, mul-pos, eq-of-mul-eq-mul-left, lt-of-mul-lt-mul-left}
-use native.Mathlib.Nat.{mod-lt, mod-def, div-one, div-le-self, mul-div-mul-left, mul-div-cancel', dvd-refl, dvd-zero, dvd-mod-iff, pos-of-dvd-of-pos}
+use native.Mathlib.Nat.{mod-lt, mod-def, div-one, div-self, div-le-self, mul-div-mul-left, mul-div-cancel', dvd-refl, dvd-zero, dvd-mod-iff, pos-of-dvd-of-pos}
 use native.Mathlib.Decide.{ℕ-discrete}
 use native.Mathlib.Omega.{arith}
 use Rattle.filing.specs.Fractions.{Fraction, SameFraction, gcdIn, gcd, lowest}
@@ -26,6 +26,10 @@ enough (suc f) (suc g) a (suc b) h k = enough f g (suc b) (a % suc b) (step-fits
 pub gcd-zero : (a : ℕ) → gcd a zero ≡ a
 unfolding gcd
 gcd-zero a = refl
+
+pub gcd-one : (a : ℕ) → gcd a 1 ≡ 1
+unfolding gcd
+gcd-one a = refl
 
 gcd-suc : (a b : ℕ) → gcd a (suc b) ≡ gcd (suc b) (a % suc b)
 unfolding gcd
@@ -105,17 +109,24 @@ module _ (x : Fraction) where
   pub lowest-is-same : SameFraction (lowest x) x
   lowest-is-same = omega (arith, ap (λ z. z * lowest x .den) lowest-num, ap (λ z. lowest x .num * z) lowest-den)
 
--- a whole number has nothing to divide
-pub lowest-whole : (n : ℕ) → lowest (record { num = n; den = 1 }) ≡ record { num = n; den = 1 }
-unfolding lowest gcd
-lowest-whole n = λ i. record { num = div-one n i; den = 1 }
+-- a num that den divides is a whole number
+pub lowest-divided : (x : Fraction) → zero < x .den → x .num % x .den ≡ zero → lowest x ≡ record { num = x .num / x .den; den = 1 }
+unfolding lowest
+lowest-divided x h e =
+    let g : gcd (x .num) (x .den) ≡ x .den = gcd-pos (x .num) h ∙ ap (gcd (x .den)) e ∙ gcd-zero (x .den) in
+    rw g (λ i. record { num = x .num / x .den; den = div-self h i })
 
--- a den that stays has nothing to divide
+-- numbers without a common divisor but 1 have nothing to divide: a whole number over 1, and those whose den stays
+pub lowest-coprime : (x : Fraction) → gcd (x .num) (x .den) ≡ 1 → lowest x ≡ x
+unfolding lowest
+lowest-coprime x e = rw e (λ i. record { num = div-one (x .num) i; den = div-one (x .den) i })
+
+pub lowest-whole : (n : ℕ) → lowest (record { num = n; den = 1 }) ≡ record { num = n; den = 1 }
+lowest-whole n = lowest-coprime (record { num = n; den = 1 }) (gcd-one n)
+
 pub lowest-undivided : (x : Fraction) → zero < x .den → lowest x .den ≡ x .den → lowest x ≡ x
-lowest-undivided x h e =
-    let one : divisor x ≡ 1 = eq-of-mul-eq-mul-left (x .den) h (divisor x) 1 (omega (arith, lowest-den x, ap (λ z. divisor x * z) e)) in
-    let num : lowest x .num ≡ x .num = omega (arith, lowest-num x, ap (λ z. z * lowest x .num) one) in
-    λ i. record { num = num i; den = e i }
+unfolding divisor
+lowest-undivided x h e = lowest-coprime x (eq-of-mul-eq-mul-left (x .den) h (divisor x) 1 (omega (arith, lowest-den x, ap (λ z. divisor x * z) e)))
 
 -- what is worth 2 remains so, and nothing else becomes so
 pub lowest-two : (x : Fraction) → (lowest x .num ≡ 2 * lowest x .den) ↔ (x .num ≡ 2 * x .den)
