@@ -1,4 +1,4 @@
--- The laws of the arrays that hold a diagram, of tests that decide, and of edges in smallest numbers.
+-- The laws of the arrays that hold a diagram, of tests that decide, and of edges in lowest terms.
 pub mod Arrays
 pub mod Stored
 pub mod Decided

@@ -13,6 +13,7 @@ isEdge num den = ltb 1 num && (not (eqb den 0) && ltb den num)
 unfoldable pub isTwo : Edge → Bool
 isTwo e = eqb (e .num) (2 * e .den)
 
+-- an edge and a fraction are the same two numbers
 abbrev pub fraction : Edge → Fraction
 fraction e = record { num = e .num; den = e .den }
 

@@ -194,7 +194,7 @@ pub fn eq_two(e: Edge) -> bool
 }
 
 // The greatest common divisor, by Euclid's algorithm, which a remainder of 1 ends too.
-pub fn gcd(a: u32, b: u32) -> u32
+fn gcd(a: u32, b: u32) -> u32
     ensures { λ r. ⌜ r ≡ the-gcd a b ⌝ }
 {
     let mut x = a;
@@ -207,7 +207,7 @@ pub fn gcd(a: u32, b: u32) -> u32
     if y == 1 { 1 } else { x }
 }
 
-// The edge in smallest numbers. (Most edges are whole numbers, and most fractions have a remainder of 0 or 1: no loop for these.)
+// The edge in lowest terms. (Most edges are whole numbers, and most fractions have a remainder of 0 or 1: no loop for these.)
 pub fn reduced(e: Edge) -> Edge
     requires { ⌜ 0 < e .den ⌝ }
     ensures { λ r. ⌜ r ≡ the-reduced e ⌝ }

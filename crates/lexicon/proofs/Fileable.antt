@@ -1,5 +1,5 @@
 -- The diagram of every accepted text can be filed: its values are doubles and no nan, so their patterns are those of numbers, and what joins two nodes is
--- a valid edge in smallest numbers, or 2/1. Assumes nothing.
+-- a valid edge in lowest terms, or 2/1. Assumes nothing.
 use Prim.Native.Nat.{ℕ, zero, suc, _^_, _<_}
 use mathlib.Core.Bool.{true, false}
 use mathlib.Core.List.{List, [], _∷_, map}

@@ -1,5 +1,5 @@
--- Edges in smallest numbers join as those typed do: what is worth 2 remains so, and what an edge joins does not depend on its fraction. So the queue may hold
--- either, and the edges stored are those of document 01 in smallest numbers. Assumes nothing.
+-- Edges in lowest terms join as those typed do: what is worth 2 remains so, and what an edge joins does not depend on its fraction. So the queue may hold
+-- either, and the edges stored are those of document 01 in lowest terms. Assumes nothing.
 use Prim.Native.Nat.{ℕ, _+_}
 use mathlib.Core.Bool.{Bool, true, false, _||_}
 use mathlib.Core.List.{List, [], _∷_, _++_, map, map-append}

@@ -1,5 +1,5 @@
 -- The loop that reads a text, in the terms of its locals: what is read from here on gives what the whole text gives (`Due` before a node, `After` behind
--- one). Each turn reads a byte, so the turns allowed, at first the length of the text, never run out. The code's queue has edges in smallest numbers;
+-- one). Each turn reads a byte, so the turns allowed, at first the length of the text, never run out. The code's queue has edges in lowest terms;
 -- `typed` is the queue as document 01 has it. Assumes nothing.
 use Prim.Native.Nat.{ℕ, zero, suc, _+_, _*_, _≤_, _<_}
 use mathlib.Core.List.{List, [], _∷_, _++_, map, map-append}
@@ -63,7 +63,7 @@ read-of nodes count typed prev = record { nodes = held nodes count; queue = type
 
 -- ---- before a node
 
--- the edges that wait, and the one read last, are those typed in smallest numbers
+-- the edges that wait, and the one read last, are those typed in lowest terms
 pub record Due (s : List ℕ) (start : ℕ) (nodes : List Place) (count : ℕ) (q : Queue) (at : ℕ) (prev : NodeRef) (e : Edge) : Type 0 where
   pub places : nodes ≡ padded (place Unringed) limit (take count nodes)
   pub few : count ≤ limit

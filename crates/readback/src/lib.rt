@@ -74,7 +74,7 @@ fn edge_of(x: u64) -> Edge
     }
 }
 
-// Whether the number that a pair's bytes spell is that of an edge in smallest numbers.
+// Whether the number that a pair's bytes spell is that of an edge in lowest terms.
 fn is_pair(x: u64) -> bool
     ensures { λ r. ⌜ Decides (IsPair (halves x)) r ⌝ }
 {

@@ -1,4 +1,4 @@
--- What an answer in smallest numbers tells of the edge as typed. Assumes nothing.
+-- What an answer in lowest terms tells of the edge as typed. Assumes nothing.
 use mathlib.Core.Path.{_≡_, refl}
 use Prim.Native.Nat.{ℕ}
 use native.Mathlib.Omega.{arith}

@@ -1,4 +1,4 @@
--- What the steps that read an edge answer: the edge in smallest numbers. No public promise leans on this file: parse/specs/Reading.antt has K2's sentence.
+-- What the steps that read an edge answer: the edge in lowest terms. No public promise leans on this file: parse/specs/Reading.antt has K2's sentence.
 use Rattle.cd.specs.Edges.{reduced}
 use Rattle.scan.specs.declared.EdgeRead.{EdgeRead}
 use Rattle.scan.specs.declared.EdgeRead.the-variants.{NoEdge, Read, Refused}

@@ -85,7 +85,7 @@ pub enum EdgeRead {
     Refused(CdError),
 }
 
-// The edge of two numbers, in smallest ones, or a refusal with those typed; `i` is the place after its run.
+// The edge of two numbers in lowest terms, or a refusal with the numbers as typed; `i` is the place after its run.
 pub fn rational(num: u32, den: u32, i: usize) -> EdgeRead
     requires { ⌜ 0 < i ⌝ }
     ensures { λ r. ⌜ r ≡ kept (edge num den i) ⌝ }

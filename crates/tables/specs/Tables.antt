@@ -45,7 +45,7 @@ pub record IsKept (N : ℕ) (d : Diagram) : Type 0 where
   pub is : IsDiagram N d
   pub lowest-terms : (i j : ℕ) → i < d .size → j < d .size → i ≢ j → IsLowest (d .edge i j)
 
--- the number that eight bytes of num and den spell, and that those of a pair spell
+-- the number that eight bytes spell, four of num and four of den; in a record they are those of the lowest terms
 unfoldable pub spelt : Fraction → ℕ
 spelt x = x .num * 2 ^ 32 + x .den
 
@@ -53,7 +53,7 @@ unfoldable pub number : Fraction → ℕ
 unfolding spelt lowest
 number x = spelt (lowest x)
 
--- the first of a pair's place: an edge has a den above 0
+-- of a pair's place, as it stands: an edge has a den above 0
 unfoldable pub pairNumber : Pair → ℕ
 unfolding spelt
 pairNumber p = pick (eqb (p .edge .den) 0) (spelt two) (spelt (fraction (p .edge)))

@@ -96,7 +96,7 @@ fn pairs_of(cd: Cd) -> [u64; SQUARE]
     out
 }
 
-// Edges are in smallest numbers: nothing is divided here.
+// Edges are in lowest terms: nothing is divided here.
 pub fn of(cd: Cd) -> Tables
     requires { ⌜ Numbers (cd .nodes) × (cd .count ≤ limit) ⌝ }
     ensures { λ t. ⌜ (t .count ≡ cd .count) × Fits t × ((ns : List ANode) (es : List Stored) → cd ≡ cdOf ns es → IsKept limit (diagram ns es) → Holds limit t (diagram ns es)) ⌝ }
