@@ -1,4 +1,4 @@
--- An edge in lowest terms: it is one, and it is dropped exactly when the edge as typed is. Assumes nothing.
+-- What the test of an edge tells, and that an edge in lowest terms is dropped exactly when the edge as typed is. Assumes nothing.
 use mathlib.Core.Bool.{true, not, and-eq-true-iff, true≢false}
 use mathlib.Core.Path.{_≡_, sym, _∙_}
 use Prim.Native.Nat.{ℕ, zero, suc, _*_, _<_}

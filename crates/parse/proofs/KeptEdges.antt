@@ -78,7 +78,7 @@ join-all-kept n (e ∷ q) k es =
     rw (ends-kept e n, join-one-kept (endsOf e n) (e .edge) k es)
     (onto-kept (joinOne (endsOf e n) (e .edge) k es) (joinAll n (map keptRef q) (k + 1)) (joinAll n q (k + 1)) (join-all-kept n q (k + 1)))
 
--- THE QUEUE IN SMALLEST NUMBERS, JOINED, GIVES WHAT IS KEPT OF THE QUEUE AS TYPED
+-- THE QUEUE IN LOWEST TERMS, JOINED, GIVES WHAT IS KEPT OF THE QUEUE AS TYPED
 pub reading-kept : (ns : List Node) (n : ℕ) (q : List EdgeRef) → kept (withEdges ns (joinAll n q 0 [])) ≡ withEdges ns (joinAll n (map keptRef q) 0 [])
 unfolding kept withEdges
 reading-kept ns n q = with-kept (joinAll n q 0 []) ∙ ap (withEdges ns) (sym (join-all-kept n q 0 []))
