@@ -1,5 +1,6 @@
 -- The tests before reading: the length, and the first byte of 128 or more. Assumes nothing.
 use Prim.Native.Nat.{ℕ, _+_, _≤_, _<_}
+use mathlib.Core.Bool.{Bool}
 use mathlib.Core.List.{List}
 use mathlib.Core.Path.{_≡_}
 use native.Mathlib.Omega.{arith}
@@ -27,20 +28,20 @@ module _ (s : List ℕ) (i : ℕ) where
   high-end h = rw (drop-of-length-le s h)
 
 -- what the tests leave of `readFrom`
-module _ (s : List ℕ) (at : ℕ) where
-  pub too-long : 255 < length s → readFrom s at ≡ Refused (TooLong 255)
+module _ (wish : Bool) (s : List ℕ) (at : ℕ) where
+  pub too-long : 255 < length s → readFrom wish s at ≡ Refused (TooLong 255)
   unfolding readFrom
   too-long h = rw (lt-ltb 255 (length s) h)
 
-  pub not-low : (i : ℕ) → length s ≤ 255 → i ≡ high s 0 → i < length s → readFrom s at ≡ Refused (NotAscii i)
+  pub not-low : (i : ℕ) → length s ≤ 255 → i ≡ high s 0 → i < length s → readFrom wish s at ≡ Refused (NotAscii i)
   unfolding readFrom
   not-low i h e k = rw (le-ltb 255 (length s) h, ← e, lt-ltb i (length s) k)
 
-  pub low : (i : ℕ) → length s ≤ 255 → i ≡ high s 0 → length s ≤ i → readFrom s at ≡ kept (joined (textFrom s at))
+  pub low : (i : ℕ) → length s ≤ 255 → i ≡ high s 0 → length s ≤ i → readFrom wish s at ≡ kept (joined (textFrom wish s at))
   unfolding readFrom
   low i h e k = rw (le-ltb 255 (length s) h, ← e, le-ltb i (length s) k)
 
   -- past the end of the text
-  pub beyond : length s < at → textFrom s at ≡ text.Refused (UnexpectedEnding at)
+  pub beyond : length s < at → textFrom wish s at ≡ text.Refused (UnexpectedEnding at)
   unfolding textFrom nodeIn taken nodeAt skip
   beyond h = let l : length s ≤ at = omega arith in rw (drop-of-length-le s l, drop-of-length-le s l)

@@ -61,6 +61,7 @@ pub enum CdError {
     Crowded { column: usize },
     Infinite { node: usize },
     NoFamily,
+    InfiniteLength { pos: usize },
 }
 
 // A few numbers: the first `count` of `at`.
@@ -97,6 +98,7 @@ pub fn figures(e: CdError) -> Numbers
         CdError::Crowded { column } => one_field(15, column),
         CdError::Infinite { node } => one_field(16, node),
         CdError::NoFamily => no_field(17),
+        CdError::InfiniteLength { pos } => one_field(23, pos),
     }
 }
 

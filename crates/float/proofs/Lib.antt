@@ -3,6 +3,7 @@ mod Table
 mod Powers
 mod Exactly
 pub mod RoundedOnce
+pub mod FiniteValues
 pub mod Quotients
 mod Steps
 mod Halves

@@ -1,5 +1,6 @@
 -- Document 02, K2: "Matrix bits don't change, since both quotients round the same fraction". The edges as typed have the matrix of the edges kept, entry by
 -- entry, and so what the calls show of a text is what its edges as typed would show. Numbers of 32 bits are doubles exactly. Assumes nothing.
+use mathlib.Core.Bool.{Bool}
 use mathlib.Core.List.{List, [], _∷_, map}
 use mathlib.Core.Path.{_≡_, refl, ap}
 use Prim.Native.Nat.{ℕ, _^_, _<_}
@@ -42,33 +43,33 @@ between-kept (s ∷ ts) i j (cons h hs) =
     rw (quotient-reduced (s .edge) (h .num-fits) (omega (arith, h .num-fits)) (den-positive (s .edge) (h .valid)), between-kept ts i j hs)
 
 -- THE MATRIX OF THE EDGES KEPT IS THE MATRIX OF THE EDGES AS TYPED, ENTRY BY ENTRY
-pub same-entry : (s : List ℕ) (ns : List Node) (ts : List Stored) → typed s ≡ Accepted ns ts → (i j : ℕ) → matrix (map keptEdge ts) i j ≡ matrix ts i j
+pub same-entry : (wish : Bool) (s : List ℕ) (ns : List Node) (ts : List Stored) → typed wish s ≡ Accepted ns ts → (i j : ℕ) → matrix (map keptEdge ts) i j ≡ matrix ts i j
 unfolding matrix
-same-entry s ns ts h i j = ap (pick (eqb i j) one) (between-kept ts i j (sound-edges s ns ts h))
+same-entry wish s ns ts h i j = ap (pick (eqb i j) one) (between-kept ts i j (sound-edges wish s ns ts h))
 
 -- ---- the calls
 
 -- what is shown of a matrix does not tell the edges as typed from those kept
-shown-as-typed : {A : Type 0} (f : Reading → A) → ((ns : List Node) (es ts : List Stored) → matrix es ≡ matrix ts → f (Accepted ns es) ≡ f (Accepted ns ts)) → (s : List ℕ) → f (read s) ≡ f (typed s)
+shown-as-typed : {A : Type 0} (f : Reading → A) → ((ns : List Node) (es ts : List Stored) → matrix es ≡ matrix ts → f (Accepted ns es) ≡ f (Accepted ns ts)) → (wish : Bool) (s : List ℕ) → f (read wish s) ≡ f (typed wish s)
 unfolding read typed kept
-shown-as-typed f same s = of (typed s) refl
+shown-as-typed f same wish s = of (typed wish s) refl
   where
-    of : (x : Reading) → typed s ≡ x → f (kept x) ≡ f x
-    of (Accepted ns ts) h = same ns (map keptEdge ts) ts (λ t i j. same-entry s ns ts h i j t)
+    of : (x : Reading) → typed wish s ≡ x → f (kept x) ≡ f x
+    of (Accepted ns ts) h = same ns (map keptEdge ts) ts (λ t i j. same-entry wish s ns ts h i j t)
     of (Refused r) h = refl
 
-pub matrix-as-typed : (s : List ℕ) → matrixOf (read s) ≡ matrixOf (typed s)
+pub matrix-as-typed : (wish : Bool) (s : List ℕ) → matrixOf (read wish s) ≡ matrixOf (typed wish s)
 unfolding matrixOf
-matrix-as-typed s = shown-as-typed matrixOf (λ ns es ts h. ap (square (length ns)) h) s
+matrix-as-typed wish s = shown-as-typed matrixOf (λ ns es ts h. ap (square (length ns)) h) wish s
 
-pub mirrors-as-typed : (s : List ℕ) → mirrorsOf (read s) ≡ mirrorsOf (typed s)
+pub mirrors-as-typed : (wish : Bool) (s : List ℕ) → mirrorsOf (read wish s) ≡ mirrorsOf (typed wish s)
 unfolding mirrorsOf
-mirrors-as-typed s = shown-as-typed mirrorsOf (λ ns es ts h. ap (λ (m : squares.Square). shownMirrors (length ns) (mirrors m (length ns))) h) s
+mirrors-as-typed wish s = shown-as-typed mirrorsOf (λ ns es ts h. ap (λ (m : squares.Square). shownMirrors (length ns) (mirrors m (length ns))) h) wish s
 
-pub generator-as-typed : (s : List ℕ) → generatorOfText (read s) ≡ generatorOfText (typed s)
+pub generator-as-typed : (wish : Bool) (s : List ℕ) → generatorOfText (read wish s) ≡ generatorOfText (typed wish s)
 unfolding generatorOfText
-generator-as-typed s = shown-as-typed generatorOfText (λ ns es ts h. ap (λ (m : squares.Square). shownGenerator ns (mirrors m (length ns))) h) s
+generator-as-typed wish s = shown-as-typed generatorOfText (λ ns es ts h. ap (λ (m : squares.Square). shownGenerator ns (mirrors m (length ns))) h) wish s
 
-pub reflections-as-typed : (s : List ℕ) → reflectionsOfText (read s) ≡ reflectionsOfText (typed s)
+pub reflections-as-typed : (wish : Bool) (s : List ℕ) → reflectionsOfText (read wish s) ≡ reflectionsOfText (typed wish s)
 unfolding reflectionsOfText
-reflections-as-typed s = shown-as-typed reflectionsOfText (λ ns es ts h. ap (λ (m : squares.Square). shownReflections (length ns) (mirrors m (length ns))) h) s
+reflections-as-typed wish s = shown-as-typed reflectionsOfText (λ ns es ts h. ap (λ (m : squares.Square). shownReflections (length ns) (mirrors m (length ns))) h) wish s

@@ -65,10 +65,10 @@ fn mirrored(matrix: [f64; SQUARE], n: usize) -> Square
     }
 }
 
-pub fn matrix(text: &[u8]) -> Square
-    ensures { λ r. ⌜ r ≡ matrixOf (read (now (text .entry))) ⌝ }
+pub fn matrix(text: &[u8], wish: bool) -> Square
+    ensures { λ r. ⌜ r ≡ matrixOf (read wish (now (text .entry))) ⌝ }
 {
-    let r = builder::parse(text);
+    let r = builder::read(text, wish);
     let a = r.answer;
     match a {
         Answer::Accepted => {
@@ -85,10 +85,10 @@ pub fn matrix(text: &[u8]) -> Square
     }
 }
 
-pub fn mirrors(text: &[u8]) -> Square
-    ensures { λ r. ⌜ r ≡ mirrorsOf (read (now (text .entry))) ⌝ }
+pub fn mirrors(text: &[u8], wish: bool) -> Square
+    ensures { λ r. ⌜ r ≡ mirrorsOf (read wish (now (text .entry))) ⌝ }
 {
-    let r = builder::parse(text);
+    let r = builder::read(text, wish);
     let a = r.answer;
     match a {
         Answer::Accepted => {
@@ -154,10 +154,10 @@ fn solved(cd: Cd, columns: [f64; SQUARE]) -> Generated
     }
 }
 
-pub fn generator(text: &[u8]) -> Generated
-    ensures { λ r. ⌜ r ≡ generatorOfText (read (now (text .entry))) ⌝ }
+pub fn generator(text: &[u8], wish: bool) -> Generated
+    ensures { λ r. ⌜ r ≡ generatorOfText (read wish (now (text .entry))) ⌝ }
 {
-    let r = builder::parse(text);
+    let r = builder::read(text, wish);
     let a = r.answer;
     match a {
         Answer::Accepted => {
@@ -188,10 +188,10 @@ fn refused_reflections(e: CdError) -> Reflected
     }
 }
 
-pub fn reflections(text: &[u8]) -> Reflected
-    ensures { λ r. ⌜ r ≡ reflectionsOfText (read (now (text .entry))) ⌝ }
+pub fn reflections(text: &[u8], wish: bool) -> Reflected
+    ensures { λ r. ⌜ r ≡ reflectionsOfText (read wish (now (text .entry))) ⌝ }
 {
-    let r = builder::parse(text);
+    let r = builder::read(text, wish);
     let a = r.answer;
     match a {
         Answer::Accepted => {

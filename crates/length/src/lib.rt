@@ -11,6 +11,7 @@ ghost use Rattle.length.specs.Kept.{Took, Signs, kept};
 
 pub enum Length {
     Value(f64),
+    Infinite(f64),
     NoNumber,
     Nan,
     Range,
@@ -212,10 +213,10 @@ pub fn unsigned(t: &[u8], at: usize, minus: bool) -> Length
     ensures { λ r. ⌜ r ≡ unsigned minus (drop at (now (t .entry))) ⌝ }
 {
     if is_word(t, at, b"inf") {
-        return Length::Value(infinity(minus));
+        return Length::Infinite(infinity(minus));
     }
     if is_word(t, at, b"infinity") {
-        return Length::Value(infinity(minus));
+        return Length::Infinite(infinity(minus));
     }
     if is_word(t, at, b"nan") {
         return Length::Nan;

@@ -14,14 +14,14 @@ use Rattle.parse.specs.declared.Read.{Read}
 use Rattle.parse.proofs.Outcomes.{accepted-few}
 use Rattle.lexicon.specs.Reads.{Marks}
 
-answer-few : (x : Reading) (s : List ℕ) → read s ≡ x → answer x .cd .count ≤ limit
+answer-few : (x : Reading) (wish : Bool) (s : List ℕ) → read wish s ≡ x → answer x .cd .count ≤ limit
 unfolding answer cdOf
-answer-few (Accepted ns es) s h = accepted-few s ns es h
-answer-few (Refused r) s h = omega arith
+answer-few (Accepted ns es) wish s h = accepted-few wish s ns es h
+answer-few (Refused r) wish s h = omega arith
 
 -- the diagram of any text has at most `limit` nodes
-pub read-few : (s : List ℕ) (r : Read) → r ≡ answer (read s) → r .cd .count ≤ limit
-read-few s r h = rw h (answer-few (read s) s refl)
+pub read-few : (wish : Bool) (s : List ℕ) (r : Read) → r ≡ answer (read wish s) → r .cd .count ≤ limit
+read-few wish s r h = rw h (answer-few (read wish s) wish s refl)
 
 pub apart : (e : CdError) → said.Accepted ≡ said.Refused e → ⊥
 apart e h = let z : _≡_ {A = ℕ} 0 1 = (cc) in omega arith

@@ -1,7 +1,7 @@
 -- The diagram of every accepted text can be filed: its values are doubles and no nan, so their patterns are those of numbers, and what joins two nodes is
 -- a valid edge in lowest terms, or 2/1. Assumes nothing.
 use Prim.Native.Nat.{ℕ, zero, suc, _^_, _<_}
-use mathlib.Core.Bool.{true, false}
+use mathlib.Core.Bool.{Bool, true, false}
 use mathlib.Core.List.{List, [], _∷_, map}
 use mathlib.Core.Path.{_≡_, refl, ap, _∙_}
 use native.Mathlib.Nat.{not-suc-le-zero, le-of-suc-le-suc}
@@ -39,28 +39,28 @@ all-at (n ∷ ns) (suc i) (cons k ks) h = all-at ns i ks (le-of-suc-le-suc h)
 pattern-number : (v : Float) → T (fits binary64 v) → isNan v ≡ false → nanBits binary64 (toBits binary64 v) ≡ false
 pattern-number v f h = nanBits-is binary64 (toBits binary64 v) ∙ ap isNan (ofBits-toBits binary64 v f) ∙ h
 
-sound-node : {n : Node} → Sound n → IsNode (filed n)
+sound-node : {wish : Bool} {n : Node} → Sound wish n → IsNode (filed n)
 unfolding filed nanBits
 sound-node unringed = record { kind-low = omega arith; kind-high = omega arith; bits-fit = omega arith; number = refl; unringed = λ e. refl }
-sound-node (ringed {v} f h) = record {
+sound-node (ringed {v} h) = record {
   kind-low = omega arith;
   kind-high = omega arith;
-  bits-fit = toBits-lt binary64 v f;
-  number = pattern-number v f h;
+  bits-fit = toBits-lt binary64 v (h .double);
+  number = pattern-number v (h .double) (h .number);
   unringed = λ e. absurd (omega arith);
 }
-sound-node (snub {v} f h) = record {
+sound-node (snub {v} h) = record {
   kind-low = omega arith;
   kind-high = omega arith;
-  bits-fit = toBits-lt binary64 v f;
-  number = pattern-number v f h;
+  bits-fit = toBits-lt binary64 v (h .double);
+  number = pattern-number v (h .double) (h .number);
   unringed = λ e. absurd (omega arith);
 }
 
-sound-number : {n : Node} → Sound n → IsNumber n
+sound-number : {wish : Bool} {n : Node} → Sound wish n → IsNumber n
 sound-number unringed = tt
-sound-number (ringed f h) = h
-sound-number (snub f h) = h
+sound-number (ringed h) = h .number
+sound-number (snub h) = h .number
 
 -- ---- edges
 
@@ -79,20 +79,20 @@ joint-pair (s ∷ ts) i j (cons h hs) = picked IsPair (joins i j s) (kept-pair (
 
 -- ---- accepted texts
 
-module _ (s : List ℕ) (ns : List Node) (es : List Stored) (h : read s ≡ Accepted ns es) where
-  t : AsTyped s ns es
-  t = as-typed s ns es h
+module _ (wish : Bool) (s : List ℕ) (ns : List Node) (es : List Stored) (h : read wish s ≡ Accepted ns es) where
+  t : AsTyped wish s ns es
+  t = as-typed wish s ns es h
 
-  nodes-sound : All Sound ns
-  nodes-sound = sound-nodes s ns (t .edges) (t .read)
+  nodes-sound : All (Sound wish) ns
+  nodes-sound = sound-nodes wish s ns (t .edges) (t .read)
 
   pair : (i j : ℕ) → IsPair (joint es i j)
-  pair i j = rw (t .kept) (joint-pair (t .edges) i j (sound-edges s ns (t .edges) (t .read)))
+  pair i j = rw (t .kept) (joint-pair (t .edges) i j (sound-edges wish s ns (t .edges) (t .read)))
 
   pub accepted-diagram : IsDiagram limit (diagram ns es)
   unfolding diagram
   accepted-diagram = record {
-    few = accepted-few s ns es h;
+    few = accepted-few wish s ns es h;
     nodes = λ i l. sound-node (all-at ns i nodes-sound l);
     edges = λ i j l m ne. pair i j .0;
     symmetric = λ i j l m ne. joint-symmetric es i j;

@@ -1,5 +1,6 @@
 -- The answer of `write_record` is a function of the text and the buffer: a text is read in one way, a diagram has one record, and of the numberings that give it one
 -- is the first (ticket K9). The record and the numbering are a function of the text alone. Assumes nothing.
+use mathlib.Core.Bool.{Bool}
 use mathlib.Core.List.{List}
 use mathlib.Core.Path.{_≡_, refl, sym, ap, ap₂, _∙_, subst}
 use Prim.Native.Nat.{ℕ, _≤_, _<_}
@@ -37,18 +38,18 @@ pub record Accepts (ns : List Node) (es : List Stored) (out out′ : List ℕ) (
   pub count : r .count ≡ length ns
   pub written : Written limit (diagram ns es) out out′ (r .numbering)
 
-module _ {text out out′ : List ℕ} {r : Filed} where
-  pub on-refused : {e : CdError} → Files text out out′ r → read text ≡ Refused e → (r ≡ refusal e) × (out′ ≡ out)
+module _ {wish : Bool} {text out out′ : List ℕ} {r : Filed} where
+  pub on-refused : {e : CdError} → Files wish text out out′ r → read wish text ≡ Refused e → (r ≡ refusal e) × (out′ ≡ out)
   on-refused (refused h q o) k = (q ∙ ap refusal (one-refusal h k), o)
   on-refused (short h l q o) k = absurd (not-both k h)
   on-refused (filed h l a n w) k = absurd (not-both k h)
 
-  on-short : {ns : List Node} {es : List Stored} → Files text out out′ r → read text ≡ Accepted ns es → length out < recordLength limit → (r ≡ refusal ShortBuffer) × (out′ ≡ out)
+  on-short : {ns : List Node} {es : List Stored} → Files wish text out out′ r → read wish text ≡ Accepted ns es → length out < recordLength limit → (r ≡ refusal ShortBuffer) × (out′ ≡ out)
   on-short (refused h q o) k m = absurd (not-both h k)
   on-short (short h l q o) k m = (q, o)
   on-short (filed h l a n w) k m = absurd (omega arith)
 
-  pub on-accepted : {ns : List Node} {es : List Stored} → Files text out out′ r → read text ≡ Accepted ns es → recordLength limit ≤ length out → Accepts ns es out out′ r
+  pub on-accepted : {ns : List Node} {es : List Stored} → Files wish text out out′ r → read wish text ≡ Accepted ns es → recordLength limit ≤ length out → Accepts ns es out out′ r
   on-accepted (refused h q o) k m = absurd (not-both h k)
   on-accepted (short h l q o) k m = absurd (omega arith)
   on-accepted (filed h l a n w) k m =
@@ -65,7 +66,7 @@ module _ {ns : List Node} {es : List Stored} {a a′ b b′ : List ℕ} {x y : F
   accepts-same = filed-same (f .answer ∙ sym (g .answer)) (same-numbering (f .written) (g .written)) (f .count ∙ sym (g .count))
 
 -- of one text and one buffer: "from here a drawing is fixed by its text"
-pub one-answer : {text out a b : List ℕ} {x y : Filed} → Files text out a x → Files text out b y → (a ≡ b) × (x ≡ y)
+pub one-answer : {wish : Bool} {text out a b : List ℕ} {x y : Filed} → Files wish text out a x → Files wish text out b y → (a ≡ b) × (x ≡ y)
 one-answer (refused h q o) g = let (r, p) = on-refused g h in (o ∙ sym p, q ∙ sym r)
 one-answer (short h l q o) g = let (r, p) = on-short g h l in (o ∙ sym p, q ∙ sym r)
 one-answer (filed h l e n w) g =
@@ -73,8 +74,8 @@ one-answer (filed h l e n w) g =
     (same-buffer w (v .written) refl, accepts-same record { answer = e; count = n; written = w } v)
 
 -- of one text and any two buffers that 12 does not refuse
-pub one-filing : {text a a′ b b′ : List ℕ} {x y : Filed} {ns : List Node} {es : List Stored} → read text ≡ Accepted ns es → recordLength limit ≤ length a → recordLength limit ≤ length b
-    → Files text a a′ x → Files text b b′ y → (take (recordLength limit) a′ ≡ take (recordLength limit) b′) × (x ≡ y)
+pub one-filing : {wish : Bool} {text a a′ b b′ : List ℕ} {x y : Filed} {ns : List Node} {es : List Stored} → read wish text ≡ Accepted ns es → recordLength limit ≤ length a → recordLength limit ≤ length b
+    → Files wish text a a′ x → Files wish text b b′ y → (take (recordLength limit) a′ ≡ take (recordLength limit) b′) × (x ≡ y)
 one-filing h l m f g =
     let v = on-accepted f h l in
     let w = on-accepted g h m in

@@ -1,8 +1,8 @@
--- What holds of the diagram of every accepted text, the edges as typed: a node's value is a double and no nan, and an edge is valid, of 32-bit numbers, and
+-- What holds of the diagram of every accepted text, the edges as typed: a node's value is a double and no nan, without the wish no infinity, and an edge is valid, of 32-bit numbers, and
 -- between nodes that exist. By induction on the turns of reading, then on the queue: a run refuses a part of 2 ^ 32 or more as it closes, so no edge that waits has one, and
 -- joining stores only edges that waited, at indices below the number of nodes. Assumes nothing.
 use Prim.Native.Nat.{ℕ, zero, suc, _+_, _-_, _^_, _<_}
-use mathlib.Core.Bool.{true, and-eq-true-iff}
+use mathlib.Core.Bool.{Bool, true, and-eq-true-iff}
 use mathlib.Core.List.{List, [], _∷_, _++_}
 use mathlib.Core.Path.{_≡_, refl}
 use native.Mathlib.Omega.{arith}
@@ -113,8 +113,8 @@ abbrev Waits : EdgeRef → Type 0
 Waits e = IsFraction (e .edge)
 
 -- the nodes and the edges that wait are sound
-record SoundSeen (st : Seen) : Type 0 where
-  pub nodes : All Sound (st .nodes)
+record SoundSeen (wish : Bool) (st : Seen) : Type 0 where
+  pub nodes : All (Sound wish) (st .nodes)
   pub queue : All Waits (st .queue)
 
 data SoundJoint : Joint → Type 0 where
@@ -122,44 +122,44 @@ data SoundJoint : Joint → Type 0 where
   with : {e : Edge} → IsFraction e → SoundJoint (With e)
 
 -- reading goes on with what is sound, or the text is refused
-data Fine : Outcome → Type 0 where
-  on : {at : ℕ} {st : Seen} → SoundSeen st → Fine (On at st)
-  refused : {r : CdError} → Fine (text.Refused r)
+data Fine (wish : Bool) : Outcome → Type 0 where
+  on : {at : ℕ} {st : Seen} → SoundSeen wish st → Fine wish (On at st)
+  refused : {r : CdError} → Fine wish (text.Refused r)
 
-fine-onto : {o : Outcome} {k : ℕ → Seen → Outcome} → Fine o → ((at : ℕ) (st : Seen) → SoundSeen st → Fine (k at st)) → Fine (onto o k)
+fine-onto : {wish : Bool} {o : Outcome} {k : ℕ → Seen → Outcome} → Fine wish o → ((at : ℕ) (st : Seen) → SoundSeen wish st → Fine wish (k at st)) → Fine wish (onto o k)
 fine-onto (on {at} {st} h) f = f at st h
 fine-onto refused f = refused
 
-queue-sound : {x : Joint} (st : Seen) (this : NodeRef) → SoundJoint x → SoundSeen st → All Waits (queued x st this)
+queue-sound : {wish : Bool} {x : Joint} (st : Seen) (this : NodeRef) → SoundJoint x → SoundSeen wish st → All Waits (queued x st this)
 unfolding queued
 queue-sound st this without h = h .queue
 queue-sound st this (with f) h = all-append (h .queue) f
 
-fine-taken : {r : NodeRead} {x : Joint} (i : ℕ) (st : Seen) → SoundRead r → SoundJoint x → SoundSeen st → Fine (taken r i x st)
+fine-taken : {wish : Bool} {r : NodeRead} {x : Joint} (i : ℕ) (st : Seen) → SoundRead wish r → SoundJoint x → SoundSeen wish st → Fine wish (taken r i x st)
 unfolding taken
 fine-taken i st nodes.refused j h = refused
 fine-taken i st (nodes.referred {r = this}) j h = on (record { nodes = h .nodes; queue = queue-sound st this j h })
-fine-taken i st (nodes.added a) j h =
-    picked Fine (leb limit (length (st .nodes))) refused (on (record { nodes = all-append (h .nodes) a; queue = queue-sound st (Absolute (length (st .nodes))) j h }))
+fine-taken {wish} i st (nodes.added a) j h =
+    picked (Fine wish) (leb limit (length (st .nodes))) refused (on (record { nodes = all-append (h .nodes) a; queue = queue-sound st (Absolute (length (st .nodes))) j h }))
 
-module _ (s : List ℕ) where
-  fine-node : {x : Joint} (at : ℕ) (st : Seen) → SoundJoint x → SoundSeen st → Fine (nodeIn s at x st)
+module _ (wish : Bool) (s : List ℕ) where
+  fine-node : {x : Joint} (at : ℕ) (st : Seen) → SoundJoint x → SoundSeen wish st → Fine wish (nodeIn wish s at x st)
   unfolding nodeIn
-  fine-node at st j h = let i = skip (drop at s) at in fine-taken i st (node-sound (drop i s) i) j h
+  fine-node at st j h = let i = skip (drop at s) at in fine-taken i st (node-sound wish (drop i s) i) j h
 
-  fine-after : (x : EdgeRead) (at : ℕ) (st : Seen) → edgeAt s at ≡ x → SmallRead x → SoundSeen st → Fine (afterEdge x s at st)
+  fine-after : (x : EdgeRead) (at : ℕ) (st : Seen) → edgeAt s at ≡ x → SmallRead x → SoundSeen wish st → Fine wish (afterEdge wish x s at st)
   unfolding afterEdge
   fine-after scan.NoEdge at st e none h = fine-node at st without h
   fine-after (scan.Read d next) at st e (some k) h = fine-node next st (with (k, edge-valid s at d next e)) h
   fine-after (scan.Refused r) at st e refused h = refused
 
-  fine-turns : (n at : ℕ) (st : Seen) → SoundSeen st → Fine (turns n s at st)
+  fine-turns : (n at : ℕ) (st : Seen) → SoundSeen wish st → Fine wish (turns wish n s at st)
   unfolding turns turn
   fine-turns zero at st h = on h
   fine-turns (suc n) at st h =
-      picked Fine (ltb at (length s)) (fine-onto (fine-after (edgeAt s at) at st refl (small-edge s at) h) (λ at′ st′ h′. fine-turns n at′ st′ h′)) (on h)
+      picked (Fine wish) (ltb at (length s)) (fine-onto (fine-after (edgeAt s at) at st refl (small-edge s at) h) (λ at′ st′ h′. fine-turns n at′ st′ h′)) (on h)
 
-  text-fine : (at : ℕ) → Fine (textFrom s at)
+  text-fine : (at : ℕ) → Fine wish (textFrom wish s at)
   unfolding textFrom
   text-fine at = fine-onto (fine-node at start without (record { nodes = nil; queue = nil })) (λ at′ st′ h′. fine-turns (length s) at′ st′ h′)
 
@@ -213,30 +213,30 @@ join-all-sound n (e ∷ q) k es (cons f w) h = joined-onto (join-one-sound (e .e
 
 -- ---- an accepted text
 
-data SoundReading : Reading → Type 0 where
-  accepted : {ns : List Node} {es : List Stored} → All Sound ns → All (SoundEdge (length ns)) es → SoundReading (Accepted ns es)
-  refused : {r : CdError} → SoundReading (reading.Refused r)
+data SoundReading (wish : Bool) : Reading → Type 0 where
+  accepted : {ns : List Node} {es : List Stored} → All (Sound wish) ns → All (SoundEdge (length ns)) es → SoundReading wish (Accepted ns es)
+  refused : {r : CdError} → SoundReading wish (reading.Refused r)
 
-with-edges-sound : {ns : List Node} {j : Joined} → All Sound ns → SoundJoined (length ns) j → SoundReading (withEdges ns j)
+with-edges-sound : {wish : Bool} {ns : List Node} {j : Joined} → All (Sound wish) ns → SoundJoined (length ns) j → SoundReading wish (withEdges ns j)
 unfolding withEdges
 with-edges-sound h (edges k) = accepted h k
 with-edges-sound h refused = refused
 
-joined-sound : {o : Outcome} → Fine o → SoundReading (joined o)
+joined-sound : {wish : Bool} {o : Outcome} → Fine wish o → SoundReading wish (joined o)
 unfolding joined
 joined-sound (on {st} h) = with-edges-sound (h .nodes) (join-all-sound (length (st .nodes)) (st .queue) 0 [] (h .queue) nil)
 joined-sound refused = refused
 
-typed-sound : (s : List ℕ) → SoundReading (typed s)
+typed-sound : (wish : Bool) (s : List ℕ) → SoundReading wish (typed wish s)
 unfolding typed
-typed-sound s = picked SoundReading (ltb 255 (length s)) refused (picked SoundReading (ltb (high s 0) (length s)) refused (joined-sound (text-fine s 0)))
+typed-sound wish s = picked (SoundReading wish) (ltb 255 (length s)) refused (picked (SoundReading wish) (ltb (high s 0) (length s)) refused (joined-sound (text-fine wish s 0)))
 
-both-sound : {ns : List Node} {es : List Stored} → SoundReading (Accepted ns es) → All Sound ns × All (SoundEdge (length ns)) es
+both-sound : {wish : Bool} {ns : List Node} {es : List Stored} → SoundReading wish (Accepted ns es) → All (Sound wish) ns × All (SoundEdge (length ns)) es
 both-sound (accepted h k) = (h, k)
 
 -- every node of an accepted text is sound, and so is every stored edge as typed
-pub sound-nodes : (s : List ℕ) (ns : List Node) (es : List Stored) → typed s ≡ Accepted ns es → All Sound ns
-sound-nodes s ns es e = both-sound (rw e at (typed-sound s)) .0
+pub sound-nodes : (wish : Bool) (s : List ℕ) (ns : List Node) (es : List Stored) → typed wish s ≡ Accepted ns es → All (Sound wish) ns
+sound-nodes wish s ns es e = both-sound (rw e at (typed-sound wish s)) .0
 
-pub sound-edges : (s : List ℕ) (ns : List Node) (es : List Stored) → typed s ≡ Accepted ns es → All (SoundEdge (length ns)) es
-sound-edges s ns es e = both-sound (rw e at (typed-sound s)) .1
+pub sound-edges : (wish : Bool) (s : List ℕ) (ns : List Node) (es : List Stored) → typed wish s ≡ Accepted ns es → All (SoundEdge (length ns)) es
+sound-edges wish s ns es e = both-sound (rw e at (typed-sound wish s)) .1

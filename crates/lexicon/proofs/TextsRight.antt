@@ -1,4 +1,4 @@
--- Document 01's "Texts to try" and K2's: antt computes each reading, its line, the tests of its minimal mark and the layouts of its record. `minimal-by` is handed each
+-- Document 01's "Texts to try", K2's and K6's: antt computes each reading, its line, the tests of its minimal mark and the layouts of its record. `minimal-by` is handed each
 -- node's next step towards a ringed one, `not-minimal-by` nodes that no stored edge leaves, and one of them. Assumes nothing.
 use Prim.Native.Nat.{ℕ, _-_}
 use Prim.Native.String.{String}
@@ -42,14 +42,14 @@ use Rattle.lexicon.proofs.SoundNodes.{picked}
 
 -- ---- an entry is right by what its text is read as
 
-accepted-right : (t : String) {l : String} {ns : List Node} {es : List Stored} {b : Bool} {bs : Option (List ℕ)} → read (ascii t) ≡ Accepted ns es
+accepted-right : (t : String) {wish : Bool} {l : String} {ns : List Node} {es : List Stored} {b : Bool} {bs : Option (List ℕ)} → read wish (ascii t) ≡ Accepted ns es
     → Decides (Minimal ns es) b → answerOf (Accepted ns es) b ≡ ascii l → FiledAs bs (ok ns es)
-    → RightEntry (record { text = t; gives = ok ns es; minimal = b; line = l; bytes = bs })
+    → RightEntry (record { text = t; wish = wish; gives = ok ns es; minimal = b; line = l; bytes = bs })
 unfolding shown
 accepted-right t {b} h mark line filed = record { reading = ap shown h; mark = rw h mark; line = ap (λ r. answerOf r b) h ∙ line; filed = filed }
 
-refused-right : (t : String) {l : String} {r : CdError} {fields : List ℕ} → read (ascii t) ≡ Refused r → numberOf r ≡ fields → answerOf (Refused r) false ≡ ascii l
-    → RightEntry (record { text = t; gives = no fields; minimal = false; line = l; bytes = none })
+refused-right : (t : String) {wish : Bool} {l : String} {r : CdError} {fields : List ℕ} → read wish (ascii t) ≡ Refused r → numberOf r ≡ fields → answerOf (Refused r) false ≡ ascii l
+    → RightEntry (record { text = t; wish = wish; gives = no fields; minimal = false; line = l; bytes = none })
 unfolding shown
 refused-right t h fields line = record { reading = ap shown h ∙ ap no fields; mark = rw h refl; line = ap (λ r. answerOf r false) h ∙ line; filed = tt }
 
@@ -84,7 +84,15 @@ texts-right =
     cons (accepted-right "x3*a" refl (minimal-by (λ i. i) refl) refl tt) (
     cons (refused-right "x1o" refl refl refl) (
     cons (refused-right "x3o3*a" refl refl refl) (
-    cons (refused-right "x4/6o" refl refl refl) nil))))))))))))))))))))))))))
+    cons (refused-right "x4/6o" refl refl refl) (
+    cons (refused-right "(inf)" refl refl refl) (
+    cons (refused-right "(-Infinity)" refl refl refl) (
+    cons (refused-right "(nan)" refl refl refl) (
+    cons (refused-right "x1(inf)" refl refl refl) (
+    cons (refused-right "ooooooooo(inf)" refl refl refl) (
+    cons (refused-right "ooooooooo(inf)" refl refl refl) (
+    cons (accepted-right "(inf)" refl (minimal-by (λ i. i) refl) refl (only-layout (identity 1) refl (omega arith))) (
+    cons (accepted-right "(-Infinity)" refl (minimal-by (λ i. i) refl) refl (only-layout (identity 1) refl (omega arith))) nil))))))))))))))))))))))))))))))))))
 
 -- ---- what the list tells of a text: of x4o, `text-right "x4o" refl` under `unfolding told texts`
 
@@ -103,5 +111,5 @@ pub text-right : {e : Entry} (t : String) → told texts t ≡ some e → RightE
 text-right {e} t h = told-right t texts-right e h
 
 -- a text has one mark only, so the line told is its only one
-pub line-right : {e : Entry} → RightEntry e → (b : Bool) → Marks (read (ascii (e .text))) b → answerOf (read (ascii (e .text))) b ≡ ascii (e .line)
-line-right {e} r b m = ap (answerOf (read (ascii (e .text)))) (marked-once (read (ascii (e .text))) b (e .minimal) m (r .mark)) ∙ r .line
+pub line-right : {e : Entry} → RightEntry e → (b : Bool) → Marks (read (e .wish) (ascii (e .text))) b → answerOf (read (e .wish) (ascii (e .text))) b ≡ ascii (e .line)
+line-right {e} r b m = ap (answerOf (read (e .wish) (ascii (e .text)))) (marked-once (read (e .wish) (ascii (e .text))) b (e .minimal) m (r .mark)) ∙ r .line

@@ -1,5 +1,6 @@
 -- The promise of `write_record`. Document 01, "What each operation refuses": "Writing a record: the text's, then 12, a buffer shorter than 370. In every
 -- call, an output buffer keeps its bytes past what was written", and "A refusal .. leaves an output buffer untouched".
+use mathlib.Core.Bool.{Bool}
 use mathlib.Core.List.{List}
 use mathlib.Core.Path.{_≡_}
 use Prim.Native.Nat.{ℕ, _≤_, _<_}
@@ -20,8 +21,8 @@ use Rattle.lexicon.specs.declared.Filed.{Filed}
 abbrev pub refusal : CdError → Filed
 refusal e = record { answer = said.Refused e; numbering = plain limit; count = 0 }
 
--- of a text and a buffer before and after the call, the answer that the call gives: there is only one (proofs/OneAnswer.antt)
-pub data Files (text out out′ : List ℕ) (r : Filed) : Type 0 where
-  refused : {e : CdError} → read text ≡ Refused e → r ≡ refusal e → out′ ≡ out → Files text out out′ r
-  short : {ns : List Node} {es : List Stored} → read text ≡ Accepted ns es → length out < recordLength limit → r ≡ refusal ShortBuffer → out′ ≡ out → Files text out out′ r
-  filed : {ns : List Node} {es : List Stored} → read text ≡ Accepted ns es → recordLength limit ≤ length out → r .answer ≡ said.Accepted → r .count ≡ length ns → Written limit (diagram ns es) out out′ (r .numbering) → Files text out out′ r
+-- of a wish, a text, and a buffer before and after the call, the answer that the call gives: there is only one (proofs/OneAnswer.antt)
+pub data Files (wish : Bool) (text out out′ : List ℕ) (r : Filed) : Type 0 where
+  refused : {e : CdError} → read wish text ≡ Refused e → r ≡ refusal e → out′ ≡ out → Files wish text out out′ r
+  short : {ns : List Node} {es : List Stored} → read wish text ≡ Accepted ns es → length out < recordLength limit → r ≡ refusal ShortBuffer → out′ ≡ out → Files wish text out out′ r
+  filed : {ns : List Node} {es : List Stored} → read wish text ≡ Accepted ns es → recordLength limit ≤ length out → r .answer ≡ said.Accepted → r .count ≡ length ns → Written limit (diagram ns es) out out′ (r .numbering) → Files wish text out out′ r

@@ -14,6 +14,6 @@ Marks (parse.Accepted ns es) b = Decides (Minimal ns es) b
 Marks (parse.Refused r) b = b ≡ false
 
 -- the diagram with its stored edges, or the refusal with its fields, and the minimal mark
-pub record Reads (text : List ℕ) (r : Reading) : Type 0 where
-  pub answer : r .read ≡ parse.answer (parse.read text)
-  pub minimal : Marks (parse.read text) (r .minimal)
+pub record Reads (wish : Bool) (text : List ℕ) (r : Reading) : Type 0 where
+  pub answer : r .read ≡ parse.answer (parse.read wish text)
+  pub minimal : Marks (parse.read wish text) (r .minimal)

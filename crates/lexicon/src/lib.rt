@@ -1,4 +1,4 @@
-// The public calls. None has a `requires`: any input ends with an answer or a refusal.
+// The public calls. None has a `requires`: any input ends with an answer or a refusal. A text is read with the wish for infinite lengths or without it.
 use cd::Cd;
 use cd::CdError;
 use cd::LIMIT;
@@ -15,10 +15,10 @@ pub struct Reading {
     pub minimal: bool,
 }
 
-pub fn read(text: &[u8]) -> Reading
-    ensures { λ r. ⌜ Reads (now (text .entry)) r ⌝ }
+pub fn read(text: &[u8], wish: bool) -> Reading
+    ensures { λ r. ⌜ Reads wish (now (text .entry)) r ⌝ }
 {
-    let r = builder::parse(text);
+    let r = builder::read(text, wish);
     let a = r.answer;
     match a {
         Answer::Accepted => {
@@ -54,10 +54,10 @@ fn refusal(e: CdError) -> Filed
 }
 
 // The filing record of a text's diagram, in the first 370 bytes of the buffer.
-pub fn write_record(text: &[u8], out: &mut [u8]) -> Filed
-    ensures { λ r. ⌜ Files (now (text .entry)) (now (out .entry)) (now (out .exit)) r ⌝ }
+pub fn write_record(text: &[u8], wish: bool, out: &mut [u8]) -> Filed
+    ensures { λ r. ⌜ Files wish (now (text .entry)) (now (out .entry)) (now (out .exit)) r ⌝ }
 {
-    let r = builder::parse(text);
+    let r = builder::read(text, wish);
     let a = r.answer;
     match a {
         Answer::Accepted => {

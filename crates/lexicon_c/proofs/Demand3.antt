@@ -1,6 +1,7 @@
--- Demand 3 of the calls for C: two calls of `lexicon_write_record` that return 0 have written the same 370 bytes exactly when some renumbering carries one text's
--- diagram onto the other's; with ticket K9, their numberings tell such a renumbering, and one text and one buffer have one answer. It rests on the promise
+-- Demand 3 of the calls for C: two calls of `lexicon_write_record` that return 0, each with a wish of its own, have written the same 370 bytes exactly when some
+-- renumbering carries one text's diagram onto the other's; with ticket K9, their numberings tell such a renumbering, and one text and one buffer have one answer. It rests on the promise
 -- `FilesForC` alone. Assumes nothing.
+use mathlib.Core.Bool.{Bool}
 use mathlib.Core.List.{List, [], _∷_}
 use mathlib.Core.Logic.{_↔_}
 use mathlib.Core.Path.{_≡_, sym, ap, _∙_, subst₂}
@@ -11,7 +12,7 @@ use Rattle.cd.specs.Arrays.{padded}
 use Rattle.cd.specs.Diagrams.{Stored, limit}
 use Rattle.cd.specs.Refusals.{numberOf}
 use Rattle.cd.specs.declared.CdError.{CdError}
-use Rattle.cd.specs.declared.CdError.the-variants.{TooLong, NotAscii, MismatchedParenthesis, UnexpectedEnding, ParseError, InvalidSymbol, InvalidEdge, RepeatEdge, OutOfRange, TooManyNodes, MissingNode, ShortBuffer, RecordLength, NoDiagram, Crowded, Infinite, NoFamily}
+use Rattle.cd.specs.declared.CdError.the-variants.{TooLong, NotAscii, MismatchedParenthesis, UnexpectedEnding, ParseError, InvalidSymbol, InvalidEdge, RepeatEdge, OutOfRange, TooManyNodes, MissingNode, ShortBuffer, RecordLength, NoDiagram, Crowded, Infinite, NoFamily, InfiniteLength}
 use Rattle.cd.specs.declared.Node.{Node}
 use Rattle.filing.specs.Diagrams.{Carries, Iso}
 use Rattle.filing.specs.Numberings.{at}
@@ -48,51 +49,52 @@ numbered NoDiagram = omega arith
 numbered (Crowded k) = omega arith
 numbered (Infinite k) = omega arith
 numbered NoFamily = omega arith
+numbered (InfiniteLength p) = omega arith
 
 refused-numbered : (r : Filed) (e : CdError) (n : ℕ) → r .answer ≡ said.Refused e → n ≡ getD (told (outcome {A = ℕ} (r .answer) (r .count ∷ []) [])) 0 0 → 0 < n
 unfolding told outcome
 refused-numbered r e n h k = rw (k ∙ ap (λ a. getD (told (outcome {A = ℕ} a (r .count ∷ []) [])) 0 0) h) (numbered e)
 
 -- what a call that returns 0 tells: the text has a diagram, and the buffer is long enough
-pub record Filed0 (text out : List ℕ) : Type 0 where
+pub record Filed0 (wish : Bool) (text out : List ℕ) : Type 0 where
   pub nodes : List Node
   pub edges : List Stored
-  pub accepted : read text ≡ Accepted nodes edges
+  pub accepted : read wish text ≡ Accepted nodes edges
   pub long : recordLength limit ≤ length out
 
-module _ {text out out′ : List ℕ} {r : Filed} where
-  on-0 : (n : ℕ) → n ≡ 0 → n ≡ getD (told (outcome {A = ℕ} (r .answer) (r .count ∷ []) [])) 0 0 → Files text out out′ r → Filed0 text out
+module _ {wish : Bool} {text out out′ : List ℕ} {r : Filed} where
+  on-0 : (n : ℕ) → n ≡ 0 → n ≡ getD (told (outcome {A = ℕ} (r .answer) (r .count ∷ []) [])) 0 0 → Files wish text out out′ r → Filed0 wish text out
   on-0 n z k (refused {e} h q o) = absurd (let p = refused-numbered r e n (ap (λ (f : Filed). f .answer) q) k in omega arith)
   on-0 n z k (short h l q o) = absurd (let p = refused-numbered r ShortBuffer n (ap (λ (f : Filed). f .answer) q) k in omega arith)
   on-0 n z k (filed {ns} {es} h l a c w) = record { nodes = ns; edges = es; accepted = h; long = l }
 
-  to-0 : (n : ℕ) → n ≡ getD (told (outcome {A = ℕ} (r .answer) (r .count ∷ []) [])) 0 0 → Files text out out′ r → Filed0 text out → n ≡ 0
+  to-0 : (n : ℕ) → n ≡ getD (told (outcome {A = ℕ} (r .answer) (r .count ∷ []) [])) 0 0 → Files wish text out out′ r → Filed0 wish text out → n ≡ 0
   unfolding told outcome padded
   to-0 n k (refused h q o) d = absurd (not-both h (d .accepted))
   to-0 n k (short h l q o) d = let long = d .long in absurd (omega arith)
   to-0 n k (filed h l a c w) d = k ∙ ap (λ x. getD (told (outcome {A = ℕ} x (r .count ∷ []) [])) 0 0) a
 
-pub returned-0 : {text out out′ p p′ u : List ℕ} {n : ℕ} → FilesForC text out out′ p p′ u n → n ≡ 0 → Filed0 text out
+pub returned-0 : {wish : Bool} {text out out′ p p′ u : List ℕ} {n : ℕ} → FilesForC wish text out out′ p p′ u n → n ≡ 0 → Filed0 wish text out
 returned-0 {n = n} f z = on-0 n z (f .returned ∙ ap (λ u. getD u 0 0) (f .answer)) (f .files)
 
 -- and such a call returns 0
-pub returns-0 : {text out out′ p p′ u : List ℕ} {n : ℕ} → FilesForC text out out′ p p′ u n → Filed0 text out → n ≡ 0
+pub returns-0 : {wish : Bool} {text out out′ p p′ u : List ℕ} {n : ℕ} → FilesForC wish text out out′ p p′ u n → Filed0 wish text out → n ≡ 0
 returns-0 {n = n} f d = to-0 n (f .returned ∙ ap (λ u. getD u 0 0) (f .answer)) (f .files) d
 
 -- the numbering that such a call leaves
-numbering-0 : {text out out′ p p′ u : List ℕ} {n : ℕ} (f : FilesForC text out out′ p p′ u n) → Filed0 text out → p′ ≡ f .filed .numbering
+numbering-0 : {wish : Bool} {text out out′ p p′ u : List ℕ} {n : ℕ} (f : FilesForC wish text out out′ p p′ u n) → Filed0 wish text out → p′ ≡ f .filed .numbering
 unfolding replaced
 numbering-0 {p = p} f d = f .nodes ∙ ap (λ a. replaced a p (f .filed .numbering)) (on-accepted (f .files) (d .accepted) (d .long) .answer)
 
 -- one text, one buffer and one array of nodes before the call, one of each afterwards, and one answer
-pub one-answer : {text out a b p q q′ u v : List ℕ} {m n : ℕ} → FilesForC text out a p q u m → FilesForC text out b p q′ v n → (a ≡ b) × (q ≡ q′) × (u ≡ v) × (m ≡ n)
+pub one-answer : {wish : Bool} {text out a b p q q′ u v : List ℕ} {m n : ℕ} → FilesForC wish text out a p q u m → FilesForC wish text out b p q′ v n → (a ≡ b) × (q ≡ q′) × (u ≡ v) × (m ≡ n)
 one-answer {p = p} {u = u} {v = v} f g =
     let (bytes, same) = one.one-answer (f .files) (g .files) in
     let told-same : u ≡ v = f .answer ∙ ap (λ (x : Filed). told (outcome {A = ℕ} (x .answer) (x .count ∷ []) [])) same ∙ sym (g .answer) in
     (bytes, f .nodes ∙ ap (λ (x : Filed). replaced (x .answer) p (x .numbering)) same ∙ sym (g .nodes), told-same, f .returned ∙ ap (λ z. getD z 0 0) told-same ∙ sym (g .returned))
 
 -- one text, one record and one numbering, whatever the buffers were
-pub one-filing : {text a a′ b b′ p p′ q q′ u v : List ℕ} {m n : ℕ} → FilesForC text a a′ p p′ u m → FilesForC text b b′ q q′ v n → m ≡ 0 → n ≡ 0
+pub one-filing : {wish : Bool} {text a a′ b b′ p p′ q q′ u v : List ℕ} {m n : ℕ} → FilesForC wish text a a′ p p′ u m → FilesForC wish text b b′ q q′ v n → m ≡ 0 → n ≡ 0
     → (take (recordLength limit) a′ ≡ take (recordLength limit) b′) × (p′ ≡ q′)
 one-filing f g m-0 n-0 =
     let d = returned-0 f m-0 in
@@ -101,17 +103,17 @@ one-filing f g m-0 n-0 =
     (bytes, numbering-0 f d ∙ ap (λ (x : Filed). x .numbering) same ∙ sym (numbering-0 g e))
 
 -- two calls that return 0
-module _ (s t a a′ b b′ p p′ q q′ u v : List ℕ) (m n : ℕ) (files-s : FilesForC s a a′ p p′ u m) (files-t : FilesForC t b b′ q q′ v n) (m-0 : m ≡ 0) (n-0 : n ≡ 0) where
-  abbrev pub drawn-s : Filed0 s a
+module _ (w z : Bool) (s t a a′ b b′ p p′ q q′ u v : List ℕ) (m n : ℕ) (files-s : FilesForC w s a a′ p p′ u m) (files-t : FilesForC z t b b′ q q′ v n) (m-0 : m ≡ 0) (n-0 : n ≡ 0) where
+  abbrev pub drawn-s : Filed0 w s a
   drawn-s = returned-0 files-s m-0
 
-  abbrev pub drawn-t : Filed0 t b
+  abbrev pub drawn-t : Filed0 z t b
   drawn-t = returned-0 files-t n-0
 
   pub demand-3 : (take (recordLength limit) a′ ≡ take (recordLength limit) b′)
       ↔ Iso (diagram (drawn-s .nodes) (drawn-s .edges)) (diagram (drawn-t .nodes) (drawn-t .edges))
   demand-3 =
-      lexicon.demand-3 s t (drawn-s .nodes) (drawn-t .nodes) (drawn-s .edges) (drawn-t .edges) a a′ b b′ (files-s .filed) (files-t .filed) (drawn-s .accepted)
+      lexicon.demand-3 w z s t (drawn-s .nodes) (drawn-t .nodes) (drawn-s .edges) (drawn-t .edges) a a′ b b′ (files-s .filed) (files-t .filed) (drawn-s .accepted)
       (drawn-t .accepted) (drawn-s .long) (drawn-t .long) (files-s .files) (files-t .files)
 
   -- which node is which
@@ -120,6 +122,6 @@ module _ (s t a a′ b b′ p p′ q q′ u v : List ℕ) (m n : ℕ) (files-s :
       × ((i : ℕ) → i < length (drawn-s .nodes) → f (at p′ i) ≡ at q′ i)
   nodes-correspond same =
       let (f, c, to) =
-      lexicon.nodes-correspond s t (drawn-s .nodes) (drawn-t .nodes) (drawn-s .edges) (drawn-t .edges) a a′ b b′ (files-s .filed) (files-t .filed) (drawn-s .accepted)
+      lexicon.nodes-correspond w z s t (drawn-s .nodes) (drawn-t .nodes) (drawn-s .edges) (drawn-t .edges) a a′ b b′ (files-s .filed) (files-t .filed) (drawn-s .accepted)
       (drawn-t .accepted) (drawn-s .long) (drawn-t .long) (files-s .files) (files-t .files) same in
       (f, c, λ i h. subst₂ (λ y z. f (at y i) ≡ at z i) (sym (numbering-0 files-s drawn-s)) (sym (numbering-0 files-t drawn-t)) (to i h))

@@ -1,5 +1,5 @@
 -- The values of a diagram that can be filed are no nan, so that they have bits. Assumes nothing.
-use mathlib.Core.Bool.{false, true≢false}
+use mathlib.Core.Bool.{Bool, false, true≢false}
 use mathlib.Core.List.{List}
 use mathlib.Core.Path.{_≡_, refl, subst}
 use Prim.Native.Nat.{ℕ}
@@ -39,10 +39,10 @@ valued : (cd : Cd) (ns : List Node) (es : List Stored) → IsDiagram limit (diag
 unfolding diagram
 valued cd ns es d held = numbers-held cd ns es held (λ i l. is-number (getD ns i Unringed) (d .nodes i l))
 
-pub text-valued : (text : List ℕ) (r : Reading) → Reads text r → r .read .answer ≡ said.Accepted → Numbers (r .read .cd .nodes)
-text-valued text r h e =
-    let a = accepts (parse.read text) (r .read) (h .answer) e in
-    valued (r .read .cd) (a .ns) (a .es) (accepted-diagram text (a .ns) (a .es) (a .is)) (a .held)
+pub text-valued : (wish : Bool) (text : List ℕ) (r : Reading) → Reads wish text r → r .read .answer ≡ said.Accepted → Numbers (r .read .cd .nodes)
+text-valued wish text r h e =
+    let a = accepts (parse.read wish text) (r .read) (h .answer) e in
+    valued (r .read .cd) (a .ns) (a .es) (accepted-diagram wish text (a .ns) (a .es) (a .is)) (a .held)
 
 -- a diagram that is read back can be filed
 abbrev Filable : parse.Reading → Type 0

@@ -1,4 +1,5 @@
-// The public calls for C: include/lexicon.h says what a caller must ensure. Each returns its answer's first number, 0 or the refusal's.
+// The public calls for C: include/lexicon.h says what a caller must ensure. Each returns its answer's first number, 0 or the refusal's. A number is the wish
+// for infinite lengths: 0 without it, any other with it.
 use cd::LIMIT;
 use lent::ANSWER;
 use parse::Answer;
@@ -7,13 +8,18 @@ ghost use Rattle.lent.specs.Shown.{ofSquare, ofGenerated, ofReflected};
 ghost use Rattle.geometry.specs.Points.{generatorOfText, reflectionsOfText};
 ghost use Rattle.geometry.specs.Squares.{matrixOf, mirrorsOf, familyMatrixOf, familyMirrorsOf};
 ghost use Rattle.parse.specs.Reading.{read};
-ghost use Rattle.lexicon_c.specs.Calls.{ReadsForC, FilesForC, ReadsRecordForC};
+ghost use Rattle.lexicon_c.specs.Calls.{wished, ReadsForC, FilesForC, ReadsRecordForC};
 
 #[no_mangle]
-pub extern "C" fn lexicon_read(text: &[u8], out: &mut [u64], answer: &mut [usize; ANSWER]) -> usize
-    ensures { λ r. ⌜ ReadsForC (now (text .entry)) (now (out .entry)) (now (out .exit)) (now (answer .exit)) r ⌝ }
+pub extern "C" fn lexicon_read(
+    text: &[u8],
+    wish: usize,
+    out: &mut [u64],
+    answer: &mut [usize; ANSWER],
+) -> usize
+    ensures { λ r. ⌜ ReadsForC (wished wish) (now (text .entry)) (now (out .entry)) (now (out .exit)) (now (answer .exit)) r ⌝ }
 {
-    let x = lexicon::read(text);
+    let x = lexicon::read(text, wish != 0);
     let r = x.read;
     let cd = r.cd;
     lent::show_diagram(r, [0, cd.count, cd.edges, x.minimal as usize], out, answer)
@@ -22,13 +28,14 @@ pub extern "C" fn lexicon_read(text: &[u8], out: &mut [u64], answer: &mut [usize
 #[no_mangle]
 pub extern "C" fn lexicon_write_record(
     text: &[u8],
+    wish: usize,
     out: &mut [u8],
     numbering: &mut [usize; LIMIT],
     answer: &mut [usize; ANSWER],
 ) -> usize
-    ensures { λ r. ⌜ FilesForC (now (text .entry)) (now (out .entry)) (now (out .exit)) (now (numbering .entry)) (now (numbering .exit)) (now (answer .exit)) r ⌝ }
+    ensures { λ r. ⌜ FilesForC (wished wish) (now (text .entry)) (now (out .entry)) (now (out .exit)) (now (numbering .entry)) (now (numbering .exit)) (now (answer .exit)) r ⌝ }
 {
-    let f = lexicon::write_record(text, out);
+    let f = lexicon::write_record(text, wish != 0, out);
     let a = f.answer;
     match a {
         Answer::Accepted => {
@@ -56,45 +63,49 @@ pub extern "C" fn lexicon_read_record(
 #[no_mangle]
 pub extern "C" fn lexicon_matrix(
     text: &[u8],
+    wish: usize,
     out: &mut [f64],
     answer: &mut [usize; ANSWER],
 ) -> usize
-    ensures { λ r. ⌜ Lends (ofSquare (matrixOf (read (now (text .entry))))) (now (out .entry)) (now (out .exit)) (now (answer .exit)) r ⌝ }
+    ensures { λ r. ⌜ Lends (ofSquare (matrixOf (read (wished wish) (now (text .entry))))) (now (out .entry)) (now (out .exit)) (now (answer .exit)) r ⌝ }
 {
-    lent::show_square(geometry::matrix(text), out, answer)
+    lent::show_square(geometry::matrix(text, wish != 0), out, answer)
 }
 
 #[no_mangle]
 pub extern "C" fn lexicon_mirrors(
     text: &[u8],
+    wish: usize,
     out: &mut [f64],
     answer: &mut [usize; ANSWER],
 ) -> usize
-    ensures { λ r. ⌜ Lends (ofSquare (mirrorsOf (read (now (text .entry))))) (now (out .entry)) (now (out .exit)) (now (answer .exit)) r ⌝ }
+    ensures { λ r. ⌜ Lends (ofSquare (mirrorsOf (read (wished wish) (now (text .entry))))) (now (out .entry)) (now (out .exit)) (now (answer .exit)) r ⌝ }
 {
-    lent::show_square(geometry::mirrors(text), out, answer)
+    lent::show_square(geometry::mirrors(text, wish != 0), out, answer)
 }
 
 #[no_mangle]
 pub extern "C" fn lexicon_generator(
     text: &[u8],
+    wish: usize,
     out: &mut [f64],
     answer: &mut [usize; ANSWER],
 ) -> usize
-    ensures { λ r. ⌜ Lends (ofGenerated (generatorOfText (read (now (text .entry))))) (now (out .entry)) (now (out .exit)) (now (answer .exit)) r ⌝ }
+    ensures { λ r. ⌜ Lends (ofGenerated (generatorOfText (read (wished wish) (now (text .entry))))) (now (out .entry)) (now (out .exit)) (now (answer .exit)) r ⌝ }
 {
-    lent::show_generated(geometry::generator(text), out, answer)
+    lent::show_generated(geometry::generator(text, wish != 0), out, answer)
 }
 
 #[no_mangle]
 pub extern "C" fn lexicon_reflections(
     text: &[u8],
+    wish: usize,
     out: &mut [f64],
     answer: &mut [usize; ANSWER],
 ) -> usize
-    ensures { λ r. ⌜ Lends (ofReflected (reflectionsOfText (read (now (text .entry))))) (now (out .entry)) (now (out .exit)) (now (answer .exit)) r ⌝ }
+    ensures { λ r. ⌜ Lends (ofReflected (reflectionsOfText (read (wished wish) (now (text .entry))))) (now (out .entry)) (now (out .exit)) (now (answer .exit)) r ⌝ }
 {
-    lent::show_reflected(geometry::reflections(text), out, answer)
+    lent::show_reflected(geometry::reflections(text, wish != 0), out, answer)
 }
 
 #[no_mangle]

@@ -40,12 +40,19 @@ pub fn last_byte(at: usize, e: usize) -> usize
     if at < e { e - 1 } else { e }
 }
 
-// The node of a literal.
-pub fn length_node(l: Length, last: usize, next: usize) -> NodeRead
-    ensures { λ r. ⌜ r ≡ lengthNode l last next ⌝ }
+// The node of a literal; of an infinite one only where it is wished.
+pub fn length_node(l: Length, last: usize, next: usize, wish: bool) -> NodeRead
+    ensures { λ r. ⌜ r ≡ lengthNode wish l last next ⌝ }
 {
     match l {
         Length::Value(v) => NodeRead::Added(Node::Ringed(v), next),
+        Length::Infinite(v) => {
+            if wish {
+                NodeRead::Added(Node::Ringed(v), next)
+            } else {
+                NodeRead::Refused(CdError::InfiniteLength { pos: last })
+            }
+        }
         Length::NoNumber => NodeRead::Refused(CdError::ParseError { pos: last }),
         Length::Nan => NodeRead::Refused(CdError::InvalidSymbol { pos: last }),
         Length::Range => NodeRead::Refused(CdError::OutOfRange { pos: last }),
@@ -53,15 +60,15 @@ pub fn length_node(l: Length, last: usize, next: usize) -> NodeRead
 }
 
 // The length that starts at `at`, after its `(`.
-pub fn parse_node(s: &[u8], at: usize) -> NodeRead
+pub fn parse_node(s: &[u8], at: usize, wish: bool) -> NodeRead
     requires { ⌜ at ≤ length (now s) ⌝ }
-    ensures { λ r. ⌜ r ≡ lengthAt (drop at (now (s .entry))) at ⌝ }
+    ensures { λ r. ⌜ r ≡ lengthAt wish (drop at (now (s .entry))) at ⌝ }
 {
     let e = closing(s, at);
     if e < s.len() {
         let t = &s[at..e];
         let l = length::literal(t);
-        length_node(l, last_byte(at, e), e + 1)
+        length_node(l, last_byte(at, e), e + 1, wish)
     } else {
         NodeRead::Refused(CdError::MismatchedParenthesis { pos: e })
     }
@@ -120,16 +127,16 @@ pub fn letter_node(b: u8, at: usize) -> NodeRead
 }
 
 // The node or reference at `at`, where no space stands.
-pub fn create_node(s: &[u8], at: usize) -> NodeRead
+pub fn create_node(s: &[u8], at: usize, wish: bool) -> NodeRead
     requires { ⌜ (at ≤ length (now s)) × (length (now s) ≤ 255) ⌝ }
-    ensures { λ r. ⌜ r ≡ nodeAt (drop at (now (s .entry))) at ⌝ }
+    ensures { λ r. ⌜ r ≡ nodeAt wish (drop at (now (s .entry))) at ⌝ }
 {
     if s.len() <= at {
         return NodeRead::Refused(CdError::UnexpectedEnding { pos: at });
     }
     let b = s[at];
     if b == b'(' {
-        return parse_node(s, at + 1);
+        return parse_node(s, at + 1, wish);
     }
     if b == b'*' {
         return read_reference(s, at + 1);

@@ -90,15 +90,15 @@ reading-kept ns n q = with-kept (joinAll n q 0 []) ∙ ap (withEdges ns) (sym (j
 -- ---- an accepted text
 
 -- its edges as typed
-pub record AsTyped (s : List ℕ) (ns : List Node) (es : List Stored) : Type 0 where
+pub record AsTyped (wish : Bool) (s : List ℕ) (ns : List Node) (es : List Stored) : Type 0 where
   pub edges : List Stored
-  pub read : typed s ≡ Accepted ns edges
+  pub read : typed wish s ≡ Accepted ns edges
   pub kept : es ≡ map keptEdge edges
 
-pub as-typed : (s : List ℕ) (ns : List Node) (es : List Stored) → read s ≡ Accepted ns es → AsTyped s ns es
+pub as-typed : (wish : Bool) (s : List ℕ) (ns : List Node) (es : List Stored) → read wish s ≡ Accepted ns es → AsTyped wish s ns es
 unfolding read typed kept
-as-typed s ns es h = of (typed s) refl h
+as-typed wish s ns es h = of (typed wish s) refl h
   where
-    of : (x : Reading) → typed s ≡ x → kept x ≡ Accepted ns es → AsTyped s ns es
+    of : (x : Reading) → typed wish s ≡ x → kept x ≡ Accepted ns es → AsTyped wish s ns es
     of (Accepted ms ts) e k = record { edges = ts; read = e ∙ cc; kept = cc }
     of (reading.Refused r) e k = absurd (let z : _≡_ {A = ℕ} 0 1 = cc in omega arith)

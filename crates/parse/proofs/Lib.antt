@@ -1,5 +1,6 @@
--- The laws of reading: the loop over the text, the queue, and the edges kept.
+-- The laws of reading: the loop over the text, the queue, the edges kept, and the two wishes.
 mod JoinLaws
 pub mod KeptEdges
 mod Turns
 pub mod Outcomes
+pub mod Wishes

@@ -52,44 +52,44 @@ fine-added false n next i j st e h =
     let f : length (st .nodes ++ (n ∷ [])) ≤ limit = omega (arith, length-append (st .nodes) (n ∷ [])) in
     on h f
 
-module _ (s : List ℕ) where
-  fine-taken : (x : NodeRead) (i : ℕ) (j : Joint) (st : Seen) → i ≤ length s → x ≡ nodeAt (drop i s) i → length (st .nodes) ≤ limit → Fine (i + 1) (taken x i j st)
+module _ (wish : Bool) (s : List ℕ) where
+  fine-taken : (x : NodeRead) (i : ℕ) (j : Joint) (st : Seen) → i ≤ length s → x ≡ nodeAt wish (drop i s) i → length (st .nodes) ≤ limit → Fine (i + 1) (taken x i j st)
   unfolding taken
   fine-taken (node.Refused r) i j st h e f = refused
-  fine-taken (node.Referred this next) i j st h e f = let l : i + 1 ≤ next = omega (arith, reference-ahead s i this next h (sym e)) in on l f
-  fine-taken (node.Added n next) i j st h e f = fine-added (leb limit (length (st .nodes))) n next i j st refl (omega (arith, node-ahead s i n next h (sym e)))
+  fine-taken (node.Referred this next) i j st h e f = let l : i + 1 ≤ next = omega (arith, reference-ahead wish s i this next h (sym e)) in on l f
+  fine-taken (node.Added n next) i j st h e f = fine-added (leb limit (length (st .nodes))) n next i j st refl (omega (arith, node-ahead wish s i n next h (sym e)))
 
-  fine-node : (at : ℕ) (j : Joint) (st : Seen) → at ≤ length s → length (st .nodes) ≤ limit → Fine (at + 1) (nodeIn s at j st)
+  fine-node : (at : ℕ) (j : Joint) (st : Seen) → at ≤ length s → length (st .nodes) ≤ limit → Fine (at + 1) (nodeIn wish s at j st)
   unfolding nodeIn
   fine-node at j st h f =
       let i = skip (drop at s) at in
       let b = skip-bounds (drop at s) at in
-      fine-later (fine-taken (nodeAt (drop i s) i) i j st (omega (arith, b, length-drop at s)) refl f) (omega (arith, b))
+      fine-later (fine-taken (nodeAt wish (drop i s) i) i j st (omega (arith, b, length-drop at s)) refl f) (omega (arith, b))
 
-  fine-after : (x : EdgeRead) (at : ℕ) (st : Seen) → at ≤ length s → x ≡ edgeAt s at → length (st .nodes) ≤ limit → Fine (at + 1) (afterEdge x s at st)
+  fine-after : (x : EdgeRead) (at : ℕ) (st : Seen) → at ≤ length s → x ≡ edgeAt s at → length (st .nodes) ≤ limit → Fine (at + 1) (afterEdge wish x s at st)
   unfolding afterEdge
   fine-after edge.NoEdge at st h e f = fine-node at Without st h f
   fine-after (edge.Read d next) at st h e f = let b = edge-next s at d next h (sym e) in fine-later (fine-node next (With d) st (b .1) f) (omega (arith, b))
   fine-after (edge.Refused r) at st h e f = refused
 
-  fine-turn : (at : ℕ) (st : Seen) → at ≤ length s → length (st .nodes) ≤ limit → Fine (at + 1) (turn s at st)
+  fine-turn : (at : ℕ) (st : Seen) → at ≤ length s → length (st .nodes) ≤ limit → Fine (at + 1) (turn wish s at st)
   unfolding turn
   fine-turn at st h f = fine-after (edgeAt s at) at st h refl f
 
   -- with a turn allowed for each byte that remains, reading comes to the end
-  fine-turns : (n at : ℕ) (st : Seen) → length s ≤ n + at → length (st .nodes) ≤ limit → Fine (length s) (turns n s at st)
+  fine-turns : (n at : ℕ) (st : Seen) → length s ≤ n + at → length (st .nodes) ≤ limit → Fine (length s) (turns wish n s at st)
   unfolding turns
   fine-turns zero at st h f = let l : length s ≤ at = omega arith in on l f
   fine-turns (suc n) at st h f = remain (ltb at (length s)) refl (λ at′ st′ h′ f′. fine-turns n at′ st′ h′ f′)
     where
-      remain : (t : Bool) → ltb at (length s) ≡ t → ((at′ : ℕ) (st′ : Seen) → length s ≤ n + at′ → length (st′ .nodes) ≤ limit → Fine (length s) (turns n s at′ st′))
-          → Fine (length s) (pick t (onto (turn s at st) (turns n s)) (On at st))
+      remain : (t : Bool) → ltb at (length s) ≡ t → ((at′ : ℕ) (st′ : Seen) → length s ≤ n + at′ → length (st′ .nodes) ≤ limit → Fine (length s) (turns wish n s at′ st′))
+          → Fine (length s) (pick t (onto (turn wish s at st) (turns wish n s)) (On at st))
       remain true e g =
           let l = ltb-true at (length s) e in
           fine-onto (fine-turn at st (omega arith) f) (λ at′ st′ h′ f′. g at′ st′ (omega arith) f′)
       remain false e g = on (ltb-false at (length s) e) f
 
-  text-fine : (at : ℕ) → at ≤ length s → Fine (length s) (textFrom s at)
+  text-fine : (at : ℕ) → at ≤ length s → Fine (length s) (textFrom wish s at)
   unfolding textFrom
   text-fine at h = fine-onto (fine-node at Without start h (omega arith)) (λ at′ st′ h′ f′. fine-turns (length s) at′ st′ (omega arith) f′)
 
@@ -97,8 +97,8 @@ ended : {lo at : ℕ} {st : Seen} → Fine lo (On at st) → (lo ≤ at) × (len
 ended (on h f) = (h, f)
 
 -- the turns allowed never run out: where reading stops without a refusal, the text has ended
-pub whole-text : (s : List ℕ) (at i : ℕ) (st : Seen) → at ≤ length s → textFrom s at ≡ On i st → length s ≤ i
-whole-text s at i st h e = ended (rw e at (text-fine s at h)) .0
+pub whole-text : (wish : Bool) (s : List ℕ) (at i : ℕ) (st : Seen) → at ≤ length s → textFrom wish s at ≡ On i st → length s ≤ i
+whole-text wish s at i st h e = ended (rw e at (text-fine wish s at h)) .0
 
 -- ---- an accepted text
 
@@ -126,12 +126,12 @@ unfolding kept
 few-kept (accepted h) = accepted h
 few-kept refused = refused
 
-few-read : (s : List ℕ) → Few (read s)
+few-read : (wish : Bool) (s : List ℕ) → Few (read wish s)
 unfolding read
-few-read s = few-kept (few-picked (ltb 255 (length s)) refused (few-picked (ltb (high s 0) (length s)) refused (few-joined (text-fine s 0 (omega arith)))))
+few-read wish s = few-kept (few-picked (ltb 255 (length s)) refused (few-picked (ltb (high s 0) (length s)) refused (few-joined (text-fine wish s 0 (omega arith)))))
 
 few-nodes : {ns : List Node} {es : List Stored} → Few (Accepted ns es) → length ns ≤ limit
 few-nodes (accepted h) = h
 
-pub accepted-few : (s : List ℕ) (ns : List Node) (es : List Stored) → read s ≡ Accepted ns es → length ns ≤ limit
-accepted-few s ns es e = few-nodes (rw e at (few-read s))
+pub accepted-few : (wish : Bool) (s : List ℕ) (ns : List Node) (es : List Stored) → read wish s ≡ Accepted ns es → length ns ≤ limit
+accepted-few wish s ns es e = few-nodes (rw e at (few-read wish s))

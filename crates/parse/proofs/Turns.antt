@@ -2,6 +2,7 @@
 -- one). Each turn reads a byte, so the turns allowed, at first the length of the text, never run out. The code's queue has edges in lowest terms;
 -- `typed` is the queue as document 01 has it. Assumes nothing.
 use Prim.Native.Nat.{ℕ, zero, suc, _+_, _*_, _≤_, _<_}
+use mathlib.Core.Bool.{Bool}
 use mathlib.Core.List.{List, [], _∷_, _++_, map, map-append}
 use mathlib.Core.Path.{_≡_, refl, sym, ap, _∙_}
 use native.Mathlib.Numerals.{add-one}
@@ -64,7 +65,7 @@ read-of nodes count typed prev = record { nodes = held nodes count; queue = type
 -- ---- before a node
 
 -- the edges that wait, and the one read last, are those typed in lowest terms
-pub record Due (s : List ℕ) (start : ℕ) (nodes : List Place) (count : ℕ) (q : Queue) (at : ℕ) (prev : NodeRef) (e : Edge) : Type 0 where
+pub record Due (wish : Bool) (s : List ℕ) (start : ℕ) (nodes : List Place) (count : ℕ) (q : Queue) (at : ℕ) (prev : NodeRef) (e : Edge) : Type 0 where
   pub places : nodes ≡ padded (place Unringed) limit (take count nodes)
   pub few : count ≤ limit
   pub slots : length (q .at) ≡ 128
@@ -77,12 +78,12 @@ pub record Due (s : List ℕ) (start : ℕ) (nodes : List Place) (count : ℕ) (
   pub last : joint e ≡ keptJoint edge
   pub left : ℕ
   pub enough : length s ≤ left + at
-  pub going : onto (nodeIn s at edge (read-of nodes count typed prev)) (turns left s) ≡ textFrom s start
+  pub going : onto (nodeIn wish s at edge (read-of nodes count typed prev)) (turns wish left s) ≡ textFrom wish s start
 
-pub due-start : (s : List ℕ) (start : ℕ) (nodes : List Place) (slots : List EdgeRef) → start ≤ length s → nodes ≡ padded (place Unringed) limit [] → length slots ≡ 128
-    → Due s start nodes 0 (record { at = slots; count = 0 }) start (Absolute 0) (record { num = 0; den = 0 })
+pub due-start : (wish : Bool) (s : List ℕ) (start : ℕ) (nodes : List Place) (slots : List EdgeRef) → start ≤ length s → nodes ≡ padded (place Unringed) limit [] → length slots ≡ 128
+    → Due wish s start nodes 0 (record { at = slots; count = 0 }) start (Absolute 0) (record { num = 0; den = 0 })
 unfolding textFrom joint
-due-start s start nodes slots h p l =
+due-start wish s start nodes slots h p l =
     record {
       places = p;
       few = omega arith;
@@ -101,7 +102,7 @@ due-start s start nodes slots h p l =
 
 -- ---- a node or a reference was read, and a node was stored
 
-pub record Found {s : List ℕ} {start : ℕ} {nodes : List Place} {count : ℕ} {q : Queue} {at : ℕ} {prev : NodeRef} {e : Edge} (k : Due s start nodes count q at prev e)
+pub record Found {wish : Bool} {s : List ℕ} {start : ℕ} {nodes : List Place} {count : ℕ} {q : Queue} {at : ℕ} {prev : NodeRef} {e : Edge} (k : Due wish s start nodes count q at prev e)
     (nodes′ : List Place) (count′ : ℕ) (this : NodeRef) (next : ℕ) : Type 0 where
   pub places : nodes′ ≡ padded (place Unringed) limit (take count′ nodes′)
   pub few : count′ ≤ limit
@@ -109,7 +110,7 @@ pub record Found {s : List ℕ} {start : ℕ} {nodes : List Place} {count : ℕ}
   pub upto : next ≤ length s
   pub left : ℕ
   pub enough : length s < left + next
-  pub turned : turns left s next (read-of nodes′ count′ (queued (k .edge) (read-of nodes count (k .typed) prev) this) this) ≡ textFrom s start
+  pub turned : turns wish left s next (read-of nodes′ count′ (queued (k .edge) (read-of nodes count (k .typed) prev) this) this) ≡ textFrom wish s start
 
 -- a list in the first places of an array, and one element more
 take-set : {A : Type 0} (l : List A) (c : ℕ) (v : A) → c < length l → take (c + 1) (set l c v) ≡ take c l ++ (v ∷ [])
@@ -138,36 +139,36 @@ module _ (nodes : List Place) (count : ℕ) (places : nodes ≡ padded (place Un
         ∙ set-padded (place Unringed) (place n) limit (take count nodes) (omega arith)
         ∙ ap (padded (place Unringed) limit) (sym (take-set nodes count (place n) (omega (arith, nodes-long))))
 
-node-is : (s : List ℕ) (at i : ℕ) (j : Joint) (st : Seen) (x : NodeRead) → i ≡ skip (drop at s) at → x ≡ nodeAt (drop i s) i → nodeIn s at j st ≡ taken x i j st
+node-is : (wish : Bool) (s : List ℕ) (at i : ℕ) (j : Joint) (st : Seen) (x : NodeRead) → i ≡ skip (drop at s) at → x ≡ nodeAt wish (drop i s) i → nodeIn wish s at j st ≡ taken x i j st
 unfolding nodeIn
-node-is s at i j st x h k = rw (← h, ← k)
+node-is wish s at i j st x h k = rw (← h, ← k)
 
-module _ {s : List ℕ} {start : ℕ} {nodes : List Place} {count : ℕ} {q : Queue} {at : ℕ} {prev : NodeRef} {e : Edge} (k : Due s start nodes count q at prev e)
-    (i : ℕ) (x : NodeRead) (skipped : i ≡ skip (drop at s) at) (after : at ≤ i) (inside : i ≤ length s) (read : x ≡ nodeAt (drop i s) i) where
+module _ {wish : Bool} {s : List ℕ} {start : ℕ} {nodes : List Place} {count : ℕ} {q : Queue} {at : ℕ} {prev : NodeRef} {e : Edge} (k : Due wish s start nodes count q at prev e)
+    (i : ℕ) (x : NodeRead) (skipped : i ≡ skip (drop at s) at) (after : at ≤ i) (inside : i ≤ length s) (read : x ≡ nodeAt wish (drop i s) i) where
   abbrev st : Seen
   st = read-of nodes count (k .typed) prev
 
-  reading : onto (taken x i (k .edge) st) (turns (k .left) s) ≡ textFrom s start
-  reading = rw (node-is s at i (k .edge) st x skipped read) at (k .going)
+  reading : onto (taken x i (k .edge) st) (turns wish (k .left) s) ≡ textFrom wish s start
+  reading = rw (node-is wish s at i (k .edge) st x skipped read) at (k .going)
 
-  pub node-refused : (r : CdError) → x ≡ node.Refused r → textFrom s start ≡ Refused r
+  pub node-refused : (r : CdError) → x ≡ node.Refused r → textFrom wish s start ≡ Refused r
   unfolding taken
   node-refused r h = sym (rw h at reading)
 
-  pub node-tenth : (n : Node) (next : ℕ) → x ≡ node.Added n next → limit ≤ count → textFrom s start ≡ Refused (TooManyNodes i)
+  pub node-tenth : (n : Node) (next : ℕ) → x ≡ node.Added n next → limit ≤ count → textFrom wish s start ≡ Refused (TooManyNodes i)
   unfolding taken
   node-tenth n next h f = sym (rw (h, held-long nodes count (k .places) (k .few), le-leb limit count f) at reading)
 
   pub found-reference : (this : NodeRef) (next : ℕ) → x ≡ node.Referred this next → Found k nodes count this next
   unfolding taken
   found-reference this next h =
-      let a = reference-ahead s i this next inside (sym read ∙ h) in
+      let a = reference-ahead wish s i this next inside (sym read ∙ h) in
       record { places = k .places; few = k .few; ahead = omega (arith, a); upto = a .1; left = k .left; enough = omega (arith, a, k .enough); turned = rw h at reading }
 
   pub found-node : (n : Node) (next : ℕ) → x ≡ node.Added n next → count < limit → Found k (set nodes count (place n)) (count + 1) (Absolute count) next
   unfolding taken
   found-node n next h f =
-      let a = node-ahead s i n next inside (sym read ∙ h) in
+      let a = node-ahead wish s i n next inside (sym read ∙ h) in
       record {
         places = places-more nodes count (k .places) n f;
         few = omega arith;
@@ -180,7 +181,7 @@ module _ {s : List ℕ} {start : ℕ} {nodes : List Place} {count : ℕ} {q : Qu
 
 -- ---- behind a node: the edge that was read before it, if there was one, waits
 
-pub record After (s : List ℕ) (start at : ℕ) (nodes : List Place) (count : ℕ) (q : Queue) (prev : NodeRef) (next : ℕ) : Type 0 where
+pub record After (wish : Bool) (s : List ℕ) (start at : ℕ) (nodes : List Place) (count : ℕ) (q : Queue) (prev : NodeRef) (next : ℕ) : Type 0 where
   pub places : nodes ≡ padded (place Unringed) limit (take count nodes)
   pub few : count ≤ limit
   pub slots : length (q .at) ≡ 128
@@ -191,9 +192,9 @@ pub record After (s : List ℕ) (start at : ℕ) (nodes : List Place) (count : �
   pub waiting : waits q ≡ map keptRef typed
   pub left : ℕ
   pub enough : length s < left + next
-  pub turned : turns left s next (read-of nodes count typed prev) ≡ textFrom s start
+  pub turned : turns wish left s next (read-of nodes count typed prev) ≡ textFrom wish s start
 
-module _ {s : List ℕ} {start : ℕ} {nodes : List Place} {count : ℕ} {q : Queue} {at : ℕ} {prev : NodeRef} {e : Edge} (k : Due s start nodes count q at prev e)
+module _ {wish : Bool} {s : List ℕ} {start : ℕ} {nodes : List Place} {count : ℕ} {q : Queue} {at : ℕ} {prev : NodeRef} {e : Edge} (k : Due wish s start nodes count q at prev e)
     {nodes′ : List Place} {count′ : ℕ} {this : NodeRef} {next : ℕ} (f : Found k nodes′ count′ this next) where
   -- the queue with the edge read before this node, as typed and as it waits
   abbrev longer : List EdgeRef
@@ -205,7 +206,7 @@ module _ {s : List ℕ} {start : ℕ} {nodes : List Place} {count : ℕ} {q : Qu
       ∙ ap (λ (j : Joint). queued j (read-of nodes count (map keptRef (k .typed)) prev) this) (k .last)
       ∙ sym (queued-kept (k .edge) (read-of nodes count (k .typed) prev) this)
 
-  pub edge-waits : 0 < e .num → q .count < 128 → After s start at nodes′ count′ (record { at = set (q .at) (q .count) (record { first = prev; other = this; edge = e }); count = q .count + 1 }) this next
+  pub edge-waits : 0 < e .num → q .count < 128 → After wish s start at nodes′ count′ (record { at = set (q .at) (q .count) (record { first = prev; other = this; edge = e }); count = q .count + 1 }) this next
   unfolding joint queued
   edge-waits h b =
       let w : EdgeRef = record { first = prev; other = this; edge = e } in
@@ -223,7 +224,7 @@ module _ {s : List ℕ} {start : ℕ} {nodes : List Place} {count : ℕ} {q : Qu
         turned = f .turned;
       }
 
-  pub none-waits : e .num ≤ 0 → After s start at nodes′ count′ q this next
+  pub none-waits : e .num ≤ 0 → After wish s start at nodes′ count′ q this next
   unfolding joint queued
   none-waits h =
       record {
@@ -242,42 +243,42 @@ module _ {s : List ℕ} {start : ℕ} {nodes : List Place} {count : ℕ} {q : Qu
 
 -- ---- the end, or another turn
 
-over : (n : ℕ) (s : List ℕ) (at : ℕ) (st : Seen) → length s ≤ at → turns n s at st ≡ On at st
+over : (wish : Bool) (n : ℕ) (s : List ℕ) (at : ℕ) (st : Seen) → length s ≤ at → turns wish n s at st ≡ On at st
 unfolding turns
-over zero s at st h = refl
-over (suc n) s at st h = rw (le-ltb at (length s) h)
+over wish zero s at st h = refl
+over wish (suc n) s at st h = rw (le-ltb at (length s) h)
 
 -- a turn is left while bytes remain
-pub record More (n : ℕ) (s : List ℕ) (at : ℕ) (st : Seen) : Type 0 where
+pub record More (wish : Bool) (n : ℕ) (s : List ℕ) (at : ℕ) (st : Seen) : Type 0 where
   pub less : ℕ
   pub one : n ≡ suc less
-  pub is : turns n s at st ≡ onto (turn s at st) (turns less s)
+  pub is : turns wish n s at st ≡ onto (turn wish s at st) (turns wish less s)
 
-more : (n : ℕ) (s : List ℕ) (at : ℕ) (st : Seen) → at < length s → length s < n + at → More n s at st
+more : (wish : Bool) (n : ℕ) (s : List ℕ) (at : ℕ) (st : Seen) → at < length s → length s < n + at → More wish n s at st
 unfolding turns
-more zero s at st h l = let z : ⊥ = omega arith in absurd z
-more (suc n) s at st h l = record { less = n; one = refl; is = rw (lt-ltb at (length s) h) }
+more wish zero s at st h l = let z : ⊥ = omega arith in absurd z
+more wish (suc n) s at st h l = record { less = n; one = refl; is = rw (lt-ltb at (length s) h) }
 
-module _ {s : List ℕ} {start at : ℕ} {nodes : List Place} {count : ℕ} {q : Queue} {prev : NodeRef} {next : ℕ} (a : After s start at nodes count q prev next) where
+module _ {wish : Bool} {s : List ℕ} {start at : ℕ} {nodes : List Place} {count : ℕ} {q : Queue} {prev : NodeRef} {next : ℕ} (a : After wish s start at nodes count q prev next) where
   abbrev read-so-far : Seen
   read-so-far = read-of nodes count (a .typed) prev
 
-  pub whole : length s ≤ next → textFrom s start ≡ On next read-so-far
-  whole h = sym (a .turned) ∙ over (a .left) s next read-so-far h
+  pub whole : length s ≤ next → textFrom wish s start ≡ On next read-so-far
+  whole h = sym (a .turned) ∙ over wish (a .left) s next read-so-far h
 
-  m : next < length s → More (a .left) s next read-so-far
-  m inside = more (a .left) s next read-so-far inside (a .enough)
+  m : next < length s → More wish (a .left) s next read-so-far
+  m inside = more wish (a .left) s next read-so-far inside (a .enough)
 
   module _ (inside : next < length s) (x : EdgeRead) (read : x ≡ keptRead (edgeAt s next)) where
-    turning : (y : EdgeRead) → edgeAt s next ≡ y → onto (afterEdge y s next read-so-far) (turns (m inside .less) s) ≡ textFrom s start
+    turning : (y : EdgeRead) → edgeAt s next ≡ y → onto (afterEdge wish y s next read-so-far) (turns wish (m inside .less) s) ≡ textFrom wish s start
     unfolding turn
-    turning y h = ap (λ (z : EdgeRead). onto (afterEdge z s next read-so-far) (turns (m inside .less) s)) (sym h) ∙ sym (m inside .is) ∙ a .turned
+    turning y h = ap (λ (z : EdgeRead). onto (afterEdge wish z s next read-so-far) (turns wish (m inside .less) s)) (sym h) ∙ sym (m inside .is) ∙ a .turned
 
-    pub edge-refused : (r : CdError) → x ≡ edge.Refused r → textFrom s start ≡ Refused r
+    pub edge-refused : (r : CdError) → x ≡ edge.Refused r → textFrom wish s start ≡ Refused r
     unfolding afterEdge
     edge-refused r h = sym (turning (edge.Refused r) (kept-refused _ r (sym read ∙ h)))
 
-    pub no-edge : x ≡ edge.NoEdge → Due s start nodes count q next prev (record { num = 0; den = 0 })
+    pub no-edge : x ≡ edge.NoEdge → Due wish s start nodes count q next prev (record { num = 0; den = 0 })
     unfolding afterEdge joint
     no-edge h =
         record {
@@ -296,7 +297,7 @@ module _ {s : List ℕ} {start at : ℕ} {nodes : List Place} {count : ℕ} {q :
           going = turning edge.NoEdge (kept-none _ (sym read ∙ h));
         }
 
-    pub an-edge : (e : Edge) (to : ℕ) → x ≡ edge.Read e to → Due s start nodes count q to prev e × (next < to)
+    pub an-edge : (e : Edge) (to : ℕ) → x ≡ edge.Read e to → Due wish s start nodes count q to prev e × (next < to)
     unfolding afterEdge joint
     an-edge e to h =
         let t = kept-read _ e to (sym read ∙ h) in
@@ -327,15 +328,15 @@ same-places [] = refl
 same-places (p ∷ l) = ap (λ (m : List Place). p ∷ m) (same-places l)
 
 -- the text is read: the queue joined gives the answer
-pub record Ended (s : List ℕ) (start : ℕ) (nodes : List Place) (count : ℕ) (q : Queue) : Type 0 where
+pub record Ended (wish : Bool) (s : List ℕ) (start : ℕ) (nodes : List Place) (count : ℕ) (q : Queue) : Type 0 where
   pub places : nodes ≡ padded (place Unringed) limit (take count nodes)
   pub few : count ≤ limit
   pub slots : length (q .at) ≡ 128
   pub fits : q .count ≤ 128
-  pub gives : kept (joined (textFrom s start)) ≡ withEdges (held nodes count) (joinAll count (waits q) 0 [])
+  pub gives : kept (joined (textFrom wish s start)) ≡ withEdges (held nodes count) (joinAll count (waits q) 0 [])
 
-pub ended : {s : List ℕ} {start at : ℕ} {nodes : List Place} {count : ℕ} {q : Queue} {prev : NodeRef} {next : ℕ} → After s start at nodes count q prev next
-    → length s ≤ 255 → length s ≤ next → Ended s start nodes count q
+pub ended : {wish : Bool} {s : List ℕ} {start at : ℕ} {nodes : List Place} {count : ℕ} {q : Queue} {prev : NodeRef} {next : ℕ} → After wish s start at nodes count q prev next
+    → length s ≤ 255 → length s ≤ next → Ended wish s start nodes count q
 unfolding joined
 ended {nodes = nodes} {count = count} {q = q} a short h =
     record {
@@ -349,18 +350,18 @@ ended {nodes = nodes} {count = count} {q = q} a short h =
           ∙ rw (a .waiting, held-long nodes count (a .places) (a .few));
     }
 
-module _ {s : List ℕ} {start : ℕ} {nodes : List Place} {count : ℕ} {q : Queue} (e : Ended s start nodes count q) where
-  pub join-refused : (r : CdError) → joinAll count (waits q) 0 [] ≡ joining.Refused r → answer (gives.Refused r) ≡ answer (kept (joined (textFrom s start)))
+module _ {wish : Bool} {s : List ℕ} {start : ℕ} {nodes : List Place} {count : ℕ} {q : Queue} (e : Ended wish s start nodes count q) where
+  pub join-refused : (r : CdError) → joinAll count (waits q) 0 [] ≡ joining.Refused r → answer (gives.Refused r) ≡ answer (kept (joined (textFrom wish s start)))
   unfolding withEdges
   join-refused r h = ap answer (sym (e .gives ∙ ap (withEdges (held nodes count)) h))
 
   -- nodes in their places, and the edges stored, are the diagram
   pub join-accepted : (es : List Stored) → joinAll count (waits q) 0 [] ≡ joining.Edges es
-      → record { answer = Accepted; cd = record { nodes = nodes; count = count; pairs = triangle (between 1 es) limit; edges = length es } } ≡ answer (kept (joined (textFrom s start)))
+      → record { answer = Accepted; cd = record { nodes = nodes; count = count; pairs = triangle (between 1 es) limit; edges = length es } } ≡ answer (kept (joined (textFrom wish s start)))
   unfolding withEdges answer cdOf
   join-accepted es h =
       let l : map place (held nodes count) ≡ take count nodes = same-places (take count nodes) in
-      let g : kept (joined (textFrom s start)) ≡ gives.Accepted (held nodes count) es = e .gives ∙ ap (withEdges (held nodes count)) h in
+      let g : kept (joined (textFrom wish s start)) ≡ gives.Accepted (held nodes count) es = e .gives ∙ ap (withEdges (held nodes count)) h in
       let c = held-long nodes count (e .places) (e .few) in
       ap (λ (x : List Place). record { answer = Accepted; cd = record { nodes = x; count = count; pairs = triangle (between 1 es) limit; edges = length es } })
       (e .places ∙ ap (padded (place Unringed) limit) (sym l))

@@ -1,5 +1,6 @@
 -- Document 01, "Reading" and "What each operation refuses", Text: what a text is read as. Document 02, K2: the edges kept.
 use Prim.Native.Nat.{ℕ, _+_}
+use mathlib.Core.Bool.{Bool}
 use mathlib.Core.List.{List, [], _∷_, map}
 use lib.Dec.{ltb, leb}
 use lib.ListN.{length}
@@ -37,16 +38,16 @@ high [] i = i
 high (b ∷ bs) i = let r = high bs (i + 1) in pick (leb 128 b) i r
 
 -- "1, over 255 bytes (position 255). 2, a byte of 128 or more (the first). Then as reading meets them"
-unfoldable pub typedFrom : List ℕ → ℕ → Reading
+unfoldable pub typedFrom : Bool → List ℕ → ℕ → Reading
 unfolding joined high
-typedFrom s at =
-    let r = joined (textFrom s at) in
+typedFrom wish s at =
+    let r = joined (textFrom wish s at) in
     pick (ltb 255 (length s)) (Refused (TooLong 255)) (pick (ltb (high s 0) (length s)) (Refused (NotAscii (high s 0))) r)
 
 -- document 01's reading: the edges as typed
-unfoldable pub typed : List ℕ → Reading
+unfoldable pub typed : Bool → List ℕ → Reading
 unfolding typedFrom
-typed s = typedFrom s 0
+typed wish s = typedFrom wish s 0
 
 -- Document 02, K2: "The edge kept after reading should carry num and den divided by their greatest common divisor, so the diagram, the matrix and the record
 -- all start from it."
@@ -58,13 +59,13 @@ unfolding reduced
 kept (Accepted ns es) = Accepted ns (map keptEdge es)
 kept (Refused r) = Refused r
 
-unfoldable pub readFrom : List ℕ → ℕ → Reading
+unfoldable pub readFrom : Bool → List ℕ → ℕ → Reading
 unfolding typedFrom kept
-readFrom s at = kept (typedFrom s at)
+readFrom wish s at = kept (typedFrom wish s at)
 
-unfoldable pub read : List ℕ → Reading
+unfoldable pub read : Bool → List ℕ → Reading
 unfolding readFrom
-read s = readFrom s 0
+read wish s = readFrom wish s 0
 
 -- ---- how the code answers: a refusal carries the diagram without nodes
 unfoldable pub answer : Reading → Read

@@ -1,5 +1,6 @@
 -- Document 01, "Reading": "A text is a node, then, while bytes remain, an optional edge and a node." Nodes and the edges that wait, in the order read.
 use Prim.Native.Nat.{ℕ, zero, suc}
+use mathlib.Core.Bool.{Bool}
 use mathlib.Core.List.{List, [], _∷_, _++_}
 use lib.Dec.{ltb, leb}
 use lib.ListN.{length, drop}
@@ -57,29 +58,31 @@ taken (node.Added n next) i x st =
     let this = Absolute (length (st .nodes)) in
     pick (leb limit (length (st .nodes))) (Refused (TooManyNodes i)) (On next (record { nodes = st .nodes ++ (n ∷ []); queue = queued x st this; prev = this }))
 
--- "Node: skip spaces."
-unfoldable pub nodeIn : List ℕ → ℕ → Joint → Seen → Outcome
-unfolding taken
-nodeIn s at x st = let i = skip (drop at s) at in taken (nodeAt (drop i s) i) i x st
+-- Document 02, K6: a text is read with the wish for infinite lengths or without it
+module _ (wish : Bool) where
+  -- "Node: skip spaces."
+  unfoldable pub nodeIn : List ℕ → ℕ → Joint → Seen → Outcome
+  unfolding taken
+  nodeIn s at x st = let i = skip (drop at s) at in taken (nodeAt wish (drop i s) i) i x st
 
-unfoldable pub afterEdge : EdgeRead → List ℕ → ℕ → Seen → Outcome
-unfolding nodeIn
-afterEdge edge.NoEdge s at st = nodeIn s at Without st
-afterEdge (edge.Read e next) s at st = nodeIn s next (With e) st
-afterEdge (edge.Refused r) s at st = Refused r
+  unfoldable pub afterEdge : EdgeRead → List ℕ → ℕ → Seen → Outcome
+  unfolding nodeIn
+  afterEdge edge.NoEdge s at st = nodeIn s at Without st
+  afterEdge (edge.Read e next) s at st = nodeIn s next (With e) st
+  afterEdge (edge.Refused r) s at st = Refused r
 
--- "an optional edge and a node"
-unfoldable pub turn : List ℕ → ℕ → Seen → Outcome
-unfolding afterEdge
-turn s at st = afterEdge (edgeAt s at) s at st
+  -- "an optional edge and a node"
+  unfoldable pub turn : List ℕ → ℕ → Seen → Outcome
+  unfolding afterEdge
+  turn s at st = afterEdge (edgeAt s at) s at st
 
--- "while bytes remain", for at most so many turns: each reads a byte, and `whole-text` in proofs/Outcomes.antt says that the length of the text is enough
-unfoldable pub turns : ℕ → List ℕ → ℕ → Seen → Outcome
-unfolding turn
-turns zero s at st = On at st
-turns (suc n) s at st = let r = onto (turn s at st) (turns n s) in pick (ltb at (length s)) r (On at st)
+  -- "while bytes remain", for at most so many turns: each reads a byte, and `whole-text` in proofs/Outcomes.antt says that the length of the text is enough
+  unfoldable pub turns : ℕ → List ℕ → ℕ → Seen → Outcome
+  unfolding turn
+  turns zero s at st = On at st
+  turns (suc n) s at st = let r = onto (turn s at st) (turns n s) in pick (ltb at (length s)) r (On at st)
 
--- the text from `at` on
-unfoldable pub textFrom : List ℕ → ℕ → Outcome
-unfolding turns
-textFrom s at = onto (nodeIn s at Without start) (turns (length s) s)
+  -- the text from `at` on
+  unfoldable pub textFrom : List ℕ → ℕ → Outcome
+  unfolding turns
+  textFrom s at = onto (nodeIn s at Without start) (turns (length s) s)

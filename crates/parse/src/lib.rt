@@ -56,11 +56,11 @@ pub fn refused(r: CdError) -> Read
     }
 }
 
-// The text from `start` on: a node, then, while bytes remain, an optional edge and a node; then the queue joined in order. (One
+// The text from `start` on, with the wish for infinite lengths or without it: a node, then, while bytes remain, an optional edge and a node; then the queue joined in order. (One
 // function, since nodes and queue are locals that are stored in place: to hand them on copies them, a quarter of a short text's time.)
-pub fn read_text(s: &[u8], start: usize) -> Read
+pub fn read_text(s: &[u8], start: usize, wish: bool) -> Read
     requires { ⌜ (start ≤ length (now s)) × (length (now s) ≤ 255) ⌝ }
-    ensures { λ r. ⌜ r ≡ answer (kept (joined (textFrom (now (s .entry)) start))) ⌝ }
+    ensures { λ r. ⌜ r ≡ answer (kept (joined (textFrom wish (now (s .entry)) start))) ⌝ }
 {
     let place = Place {
         node: Node::Unringed,
@@ -86,7 +86,7 @@ pub fn read_text(s: &[u8], start: usize) -> Read
         let i = scan::skip_whitespace(s, at);
         let mut this = first;
         let mut next = i;
-        match node::create_node(s, i) {
+        match node::create_node(s, i, wish) {
             NodeRead::Refused(r) => {
                 return refused(r);
             }

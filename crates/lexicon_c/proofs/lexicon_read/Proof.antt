@@ -18,11 +18,8 @@ flag false = refl
 read-requires : tie.Need-read-requires
 read-requires c κs = search needs
 
-cast-t7 : tie.Need-cast-t7
-cast-t7 c = search needs
-
 show-diagram-requires : tie.Need-show-diagram-requires
-show-diagram-requires c κs = let r = c .before .before .before .before .before in text-valued _ (r .read .result) (r .read .ensures)
+show-diagram-requires c κs = let r = c .before .before .before .before .before in text-valued _ _ (r .read .result) (r .read .ensures)
 
 same-length : tie.Need-same-length
 same-length c = search needs
@@ -38,4 +35,4 @@ returns c =
 
 pub lexicon-read-spec : {M : Type 1} → statement M
 lexicon-read-spec =
-    tie.close (tie.spec read-requires cast-t7 show-diagram-requires same-length returns)
+    tie.close (tie.spec read-requires (λ c. search needs) show-diagram-requires same-length returns)

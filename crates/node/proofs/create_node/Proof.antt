@@ -6,7 +6,7 @@ use Rattle.node.proofs.create_node.Statement.{statement}
 use Rattle.node.proofs.create_node.Tie as tie
 
 returns : tie.Need-returns
-returns c = node-at-end _ _ (c .if1 .taken)
+returns c = node-at-end _ _ (c .if1 .taken) _
 
 shared-slice-read-b : tie.Need-shared-slice-read-b
 shared-slice-read-b c = search needs
@@ -18,7 +18,7 @@ parse-node-requires : tie.Need-parse-node-requires
 parse-node-requires c κs = search needs
 
 returns-2 : tie.Need-returns-2
-returns-2 c = c .parse-node .ensures ∙ node-of-length _ _ (c .before .before .before .if1 .left) (c .before .if2 .taken)
+returns-2 c = c .parse-node .ensures ∙ node-of-length _ _ (c .before .before .before .if1 .left) _ (c .before .if2 .taken)
 
 add-read-reference : tie.Need-add-read-reference
 add-read-reference c = search needs
@@ -27,13 +27,13 @@ read-reference-requires : tie.Need-read-reference-requires
 read-reference-requires c κs = search needs
 
 returns-3 : tie.Need-returns-3
-returns-3 c = c .read-reference .ensures ∙ node-of-reference _ _ (c .before .before .before .before .if1 .left) (c .before .before .if2 .left) (c .before .if3 .taken)
+returns-3 c = c .read-reference .ensures ∙ node-of-reference _ _ (c .before .before .before .before .if1 .left) _ (c .before .before .if2 .left) (c .before .if3 .taken)
 
 letter-node-requires : tie.Need-letter-node-requires
 letter-node-requires c κs = search needs
 
 returns-4 : tie.Need-returns-4
-returns-4 c = c .letter-node .ensures ∙ node-of-letter _ _ (c .before .before .before .before .if1 .left) (c .before .before .if2 .left) (c .before .if3 .left)
+returns-4 c = c .letter-node .ensures ∙ node-of-letter _ _ (c .before .before .before .before .if1 .left) _ (c .before .before .if2 .left) (c .before .if3 .left)
 
 pub create-node-spec : {M : Type 1} → statement M
 create-node-spec =

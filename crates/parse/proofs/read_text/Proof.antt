@@ -23,16 +23,16 @@ use Rattle.parse.proofs.read_text.Statement.{statement}
 use Rattle.parse.proofs.read_text.Tie as tie
 
 abbrev Inv-loop : tie.InvT-loop
-Inv-loop s start none first nodes₀ count₀ queue₀ at₀ prev₀ edge₀ nodes count queue at prev edge = Due s start nodes count queue at prev edge
+Inv-loop s start wish none first nodes₀ count₀ queue₀ at₀ prev₀ edge₀ nodes count queue at prev edge = Due wish s start nodes count queue at prev edge
 
 abbrev μ-loop : tie.MeasureT-loop
-μ-loop s start none first nodes₀ count₀ queue₀ at₀ prev₀ edge₀ nodes count queue at prev edge = length s - at
+μ-loop s start wish none first nodes₀ count₀ queue₀ at₀ prev₀ edge₀ nodes count queue at prev edge = length s - at
 
 abbrev Inv-loop2 : tie.InvT-loop2
-Inv-loop2 s start nodes count queue at pairs₀ edges₀ waiting k₀ pairs edges k = (k ≤ waiting) × (edges ≤ k) × (length pairs ≡ 45) × Midway count (waits queue) pairs edges k × Ended s start nodes count queue
+Inv-loop2 s start wish nodes count queue at pairs₀ edges₀ waiting k₀ pairs edges k = (k ≤ waiting) × (edges ≤ k) × (length pairs ≡ 45) × Midway count (waits queue) pairs edges k × Ended wish s start nodes count queue
 
 abbrev μ-loop2 : tie.MeasureT-loop2
-μ-loop2 s start nodes count queue at pairs₀ edges₀ waiting k₀ pairs edges k = waiting - k
+μ-loop2 s start wish nodes count queue at pairs₀ edges₀ waiting k₀ pairs edges k = waiting - k
 
 -- a node or reference was read, and a node was stored
 found : (c : tie.At-match-came Inv-loop μ-loop Inv-loop2 μ-loop2) → let l = c .before .before .before in
@@ -46,7 +46,7 @@ found c =
 
 -- the edge that was read before it, if there was one, waits
 behind : (c : tie.Joined2 Inv-loop μ-loop Inv-loop2 μ-loop2) → let m = c .before .before in let l = m .before .before .before in
-    After (l .before .before .args .s .now) (l .before .before .args .start) (l .loop .at) (m .match .nodes) (m .match .count) (c .if2 .queue) (m .match .this) (m .match .next)
+    After (l .before .before .args .wish) (l .before .before .args .s .now) (l .before .before .args .start) (l .loop .at) (m .match .nodes) (m .match .count) (c .if2 .queue) (m .match .this) (m .match .next)
 behind c =
     let m = c .before .before in
     let l = m .before .before .before in
@@ -69,7 +69,7 @@ next c =
     next-waiting (q .at) (q .count) (l .loop2 .k) blank (omega (arith, e .slots, e .fits)) (c .loop2-test .taken)
 
 loop-holds : tie.Need-loop-holds Inv-loop μ-loop Inv-loop2 μ-loop2
-loop-holds c = due-start _ _ _ _ (c .before .pre .0) (sym (padded-blank (place Unringed) limit)) refl
+loop-holds c = due-start _ _ _ _ _ (c .before .pre .0) (sym (padded-blank (place Unringed) limit)) refl
 
 skip-whitespace-requires : tie.Need-skip-whitespace-requires Inv-loop μ-loop Inv-loop2 μ-loop2
 skip-whitespace-requires c κs = c .loop .inv .upto
@@ -107,8 +107,8 @@ returns-2 c =
     let k = n .before in
     c .refused2 .ensures ∙ sym (ap (λ (o : Outcome). answer (kept (joined o))) (node-tenth (k .before .loop .inv) _ _ (k .skip-whitespace .ensures .0) (k .skip-whitespace .ensures .2) (k .skip-whitespace .ensures .1) (n .create-node .ensures) _ _ (x .n .given .1) (c .before .if1 .taken)))
 
-cast-t41 : tie.Need-cast-t41 Inv-loop μ-loop Inv-loop2 μ-loop2
-cast-t41 c = search needs
+cast-t42 : tie.Need-cast-t42 Inv-loop μ-loop Inv-loop2 μ-loop2
+cast-t42 c = search needs
 
 mul-nodes : tie.Need-mul-nodes Inv-loop μ-loop Inv-loop2 μ-loop2
 mul-nodes c = search needs
@@ -119,8 +119,8 @@ array-set-from-nodes c = search needs
 add-count : tie.Need-add-count Inv-loop μ-loop Inv-loop2 μ-loop2
 add-count c = search needs
 
-mul-t48 : tie.Need-mul-t48 Inv-loop μ-loop Inv-loop2 μ-loop2
-mul-t48 c = search needs
+mul-t49 : tie.Need-mul-t49 Inv-loop μ-loop Inv-loop2 μ-loop2
+mul-t49 c = search needs
 
 element-set-from-queue : tie.Need-element-set-from-queue Inv-loop μ-loop Inv-loop2 μ-loop2
 element-set-from-queue c = search needs
@@ -254,8 +254,8 @@ returns-5 c =
 add-edges : tie.Need-add-edges Inv-loop μ-loop Inv-loop2 μ-loop2
 add-edges c = search needs
 
-cast-t66 : tie.Need-cast-t66 Inv-loop μ-loop Inv-loop2 μ-loop2
-cast-t66 c = search needs
+cast-t67 : tie.Need-cast-t67 Inv-loop μ-loop Inv-loop2 μ-loop2
+cast-t67 c = search needs
 
 mul-pairs : tie.Need-mul-pairs Inv-loop μ-loop Inv-loop2 μ-loop2
 mul-pairs c = search needs
@@ -309,11 +309,11 @@ read-text-spec =
     enum-known-n
     refused-requires-2
     returns-2
-    cast-t41
+    cast-t42
     mul-nodes
     array-set-from-nodes
     add-count
-    mul-t48
+    mul-t49
     element-set-from-queue
     add-queue
     create-edge-requires
@@ -344,7 +344,7 @@ read-text-spec =
     refused-requires-5
     returns-5
     add-edges
-    cast-t66
+    cast-t67
     mul-pairs
     array-set-from-pairs
     add-k-2
