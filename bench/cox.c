@@ -7,7 +7,7 @@
 
 enum { ROOM = LEXICON_REFLECTIONS };
 
-typedef size_t our_call(const uint8_t *text, size_t len, double *out, size_t out_len, size_t *answer);
+typedef size_t our_call(const uint8_t *text, size_t len, size_t wish, double *out, size_t out_len, size_t *answer);
 typedef size_t rust_call(const uint8_t *text, size_t len, double *out, size_t room); // the count of nodes, or 0
 
 rust_call rust_mirrors, rust_generator, rust_reflections;
@@ -61,7 +61,7 @@ static void run_ours(const void *input, uint64_t turns)
     const struct work *w = input;
     size_t len = strlen(w->text), answer[LEXICON_ANSWER], sum = 0;
     for (uint64_t n = 0; n < turns; n++)
-        sum += w->call->our((const uint8_t *)w->text, len, ours, ROOM, answer);
+        sum += w->call->our((const uint8_t *)w->text, len, 0, ours, ROOM, answer);
     kept = ours[0] + (double)sum;
 }
 
@@ -79,7 +79,7 @@ static void check(const struct call *call, const char *text)
     size_t len = strlen(text), answer[LEXICON_ANSWER];
     memset(ours, 0xff, sizeof ours);
     memset(rusts, 0xfe, sizeof rusts);
-    size_t number = call->our((const uint8_t *)text, len, ours, ROOM, answer);
+    size_t number = call->our((const uint8_t *)text, len, 0, ours, ROOM, answer);
     size_t n = call->rust((const uint8_t *)text, len, rusts, ROOM);
     if (number != 0 || n == 0 || n != answer[1] || !call->same(n))
         fail(call->name, text, "the Rust has others");

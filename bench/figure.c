@@ -9,7 +9,7 @@ void read_figure(const char *text, struct figure *f)
 {
     uint64_t at[LEXICON_DIAGRAM];
     size_t answer[LEXICON_ANSWER];
-    if (lexicon_read((const uint8_t *)text, strlen(text), at, LEXICON_DIAGRAM, answer))
+    if (lexicon_read((const uint8_t *)text, strlen(text), 0, at, LEXICON_DIAGRAM, answer))
         fail("reading", text, "refused");
     f->n = (int)answer[1];
     for (int j = 0; j < f->n; j++) {

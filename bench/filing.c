@@ -30,7 +30,7 @@ static const struct texts {
 static void file_proved(const char *text, uint8_t *out, size_t *numbering)
 {
     size_t answer[LEXICON_ANSWER];
-    if (lexicon_write_record((const uint8_t *)text, strlen(text), out, LEXICON_RECORD, numbering, answer))
+    if (lexicon_write_record((const uint8_t *)text, strlen(text), 0, out, LEXICON_RECORD, numbering, answer))
         fail("record", text, "refused");
 }
 

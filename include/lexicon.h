@@ -31,8 +31,14 @@
  *   15      mirrors that do not exist                          column: the first that does not fit
  *   16      an infinite length                                 node: the first such
  *   17      a letter or a size that no family has
+ *   23      an infinite length that was not wished             position: the literal's last byte
  *
  * Positions, nodes, columns and places are counted from 0, positions in bytes: `x(1` is 3 at 3. 12 comes after all other refusals of a call.
+ *
+ * `wish` says whether infinite lengths are wished: 0 is no, any other number yes. An editing page passes 0, so that placeholders such as `(inf)` are turned
+ * down; an import of old articles passes 1. 23 is reading's, of a literal, as it is met: `(-Infinity)` is 23 at 9. 16 is the generator's, of a diagram, which
+ * has infinite lengths only if they were wished. A text without infinite literals has the same answer either way, and a record with an infinite length
+ * is read back without a wish.
  */
 #ifndef LEXICON_H
 #define LEXICON_H
@@ -55,12 +61,12 @@ enum {
 };
 
 /* The diagram of a text. Tells the nodes, the stored edges, and 1 if the diagram is minimal, else 0.
- * Refuses with 1 to 11 and 12.
+ * Refuses with 1 to 11, 23 and 12.
  *
  * Node i has out[2 * i], its kind (1 unringed, 2 ringed, 3 snub), and out[2 * i + 1], the 64 bits of its length, 0 if unringed; places past the last node
  * hold 1 and 0. The pair of the nodes i <= j (i = j is a loop) has, from out[18 + 3 * (j * (j + 1) / 2 + i)] on, its edge's rank in the order stored, from
  * 1, its num and its den in lowest terms; three zeros if nothing joins them. `x6/2o` has 3 and 1, as `x3o` has. */
-size_t lexicon_read(const uint8_t *text, size_t text_len, uint64_t *out, size_t out_len, size_t answer[LEXICON_ANSWER]);
+size_t lexicon_read(const uint8_t *text, size_t text_len, size_t wish, uint64_t *out, size_t out_len, size_t answer[LEXICON_ANSWER]);
 
 /* The record of a text's diagram, 370 bytes. Tells the nodes. numbering[i] is the node that the record has in place i; past the last node it holds i. Of all
  * numberings that give the record it is the first, compared as lists of numbers from the left. So a caller may rely on this:
@@ -68,9 +74,10 @@ size_t lexicon_read(const uint8_t *text, size_t text_len, uint64_t *out, size_t 
  *   - Where two texts have the same record, numbering[i] of the one corresponds to numbering[i] of the other, for each place i: a renumbering that sends one
  *     to the other carries the first text's diagram onto the second's, kinds, lengths and fractions alike. Where a figure has symmetries, other
  *     renumberings do so too.
- * Refuses with 1 to 11 and 12. The more nodes are alike, the longer it takes, here and in lexicon_read_record: nine different ones about 1 us, nine alike in a
- * chain about 25 us, nine alike that nothing joins about 7 ms. */
-size_t lexicon_write_record(const uint8_t *text, size_t text_len, uint8_t *out, size_t out_len, size_t numbering[LEXICON_LIMIT], size_t answer[LEXICON_ANSWER]);
+ * Refuses with 1 to 11, 23 and 12. The more nodes are alike, the longer it takes, here and in lexicon_read_record: nine different ones about 1 us, nine alike in
+ * a chain about 25 us, nine alike that nothing joins about 7 ms. */
+size_t lexicon_write_record(const uint8_t *text, size_t text_len, size_t wish, uint8_t *out, size_t out_len, size_t numbering[LEXICON_LIMIT],
+                            size_t answer[LEXICON_ANSWER]);
 
 /* The diagram that has these bytes for its record, in the record's own numbering, laid out as for lexicon_read, in lowest terms as there; the edges i < j rank
  * by rising j, then by rising i. Tells the nodes and the edges.
@@ -78,22 +85,22 @@ size_t lexicon_write_record(const uint8_t *text, size_t text_len, uint8_t *out, 
 size_t lexicon_read_record(const uint8_t *bytes, size_t bytes_len, uint64_t *out, size_t out_len, size_t answer[LEXICON_ANSWER]);
 
 /* The Coxeter matrix of a text's diagram: row r of column c at out[9 * c + r]; past the last node it goes on as that of nodes that nothing joins. Tells the nodes.
- * Refuses with 1 to 11 and 12. */
-size_t lexicon_matrix(const uint8_t *text, size_t text_len, double *out, size_t out_len, size_t answer[LEXICON_ANSWER]);
+ * Refuses with 1 to 11, 23 and 12. */
+size_t lexicon_matrix(const uint8_t *text, size_t text_len, size_t wish, double *out, size_t out_len, size_t answer[LEXICON_ANSWER]);
 
 /* The mirrors of a text's diagram: row r of column c at out[9 * c + r]; past the last node zeros. Tells the nodes.
- * Refuses with 1 to 11, 15 and 12. */
-size_t lexicon_mirrors(const uint8_t *text, size_t text_len, double *out, size_t out_len, size_t answer[LEXICON_ANSWER]);
+ * Refuses with 1 to 11, 23, 15 and 12. */
+size_t lexicon_mirrors(const uint8_t *text, size_t text_len, size_t wish, double *out, size_t out_len, size_t answer[LEXICON_ANSWER]);
 
 /* The generator of a text's diagram: nine coordinates, zeros past the last node, and in out[9] its circumradius. Tells the nodes. As in miratope-core it
  * depends on the order of the nodes: the radii of x3o4o and o4o3x, which are one figure, are 1 and the root of 5.
- * Refuses with 1 to 11, 15, 16 and 12. */
-size_t lexicon_generator(const uint8_t *text, size_t text_len, double *out, size_t out_len, size_t answer[LEXICON_ANSWER]);
+ * Refuses with 1 to 11, 23, 15, 16 and 12. */
+size_t lexicon_generator(const uint8_t *text, size_t text_len, size_t wish, double *out, size_t out_len, size_t answer[LEXICON_ANSWER]);
 
 /* The reflections in the mirrors of a text's diagram: row r of column c of the reflection in mirror m at out[81 * m + 9 * c + r]; past the last node a
  * reflection goes on as the unit matrix, and past the last mirror there are zeros. Tells the nodes.
- * Refuses with 1 to 11, 15 and 12. */
-size_t lexicon_reflections(const uint8_t *text, size_t text_len, double *out, size_t out_len, size_t answer[LEXICON_ANSWER]);
+ * Refuses with 1 to 11, 23, 15 and 12. */
+size_t lexicon_reflections(const uint8_t *text, size_t text_len, size_t wish, double *out, size_t out_len, size_t answer[LEXICON_ANSWER]);
 
 /* The matrix of a family, A, B, D, E or H in upper case, laid out as for lexicon_matrix; past the size it goes on as that of a longer family. Tells the nodes.
  * Refuses with 17 and 12. */

@@ -1,4 +1,5 @@
-"""Compares the Rust with the model of document 01, and both with the answers that crates/replay_reading holds.
+"""Compares the Rust with the model of document 01, and both with the answers that crates/replay_reading holds, all of them with ticket K6's
+wish: "so must any comparison with the Rust that contains such a text".
 
 `answers.py`                  the stored texts are the corpus, and the stored answers the Rust's, or the model's where the Rust has none
 `answers.py write`            stores them
@@ -38,12 +39,10 @@ def stress(count, seed=1):
 
 def compare(texts):
     """The answers, and how many there are of each sort."""
-    rusts = subprocess.run([READING], input=stored.ended(texts), stdout=subprocess.PIPE, check=True).stdout.decode().splitlines()
-    assert len(rusts) == len(texts)
-
+    rusts = of_the_rust(texts)
     answers, tally = [], collections.Counter({"texts": len(texts), "different texts": len(set(texts)), "differ": 0})
     for text, rust in zip(texts, rusts):
-        ours = model.answer(text)
+        ours = model.answer(text, wish=True)
         by_rust = rust != "?"
         if ours != rust if by_rust else not may_be_silent(text, ours):
             tally["differ"] += 1
@@ -52,6 +51,12 @@ def compare(texts):
         tally[f"of the {'Rust' if by_rust else 'model'}: {sort(ours)}"] += 1
         answers.append(rust if by_rust else ours)
     return answers, tally
+
+
+def of_the_rust(texts):
+    out = subprocess.run([READING], input=stored.ended(texts), stdout=subprocess.PIPE, check=True).stdout.decode().splitlines()
+    assert len(out) == len(texts)
+    return out
 
 
 def sort(answer):

@@ -6,7 +6,8 @@
 `cox.py write`            stores them
 `cox.py stress N [SEED]`  N texts by chance, with each kind of line
 
-Each DOUBLE is its bits as sixteen lower-case hexadecimal digits, or `nan`. Matrices go column by column.
+Texts are read with ticket K6's wish. Each DOUBLE is its bits as sixteen lower-case hexadecimal digits, or `nan`. Matrices go column by
+column.
 
     m TEXT            ok NODES DOUBLE..           the matrix; or the text's refusal, as in all these
     n TEXT            ok NODES DOUBLE..           the mirrors; or `no 15 COLUMN`
@@ -140,7 +141,7 @@ def answer(line):
             letter, size = rest[:1].decode(), int(rest[2:])
             entry = family(letter, size)
             return ok(size, *(entry if kind == "M" else mirrors(entry)))
-        diagram = model.read(rest)
+        diagram = model.read(rest, wish=True)
         count, entry = len(diagram[0]), matrix(diagram)
         if kind == "m":
             return ok(count, *entry)

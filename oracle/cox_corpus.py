@@ -86,14 +86,14 @@ def published():
     for text in [*reading.families(), *reading.stars(), *reading.snubs(), *reading.references(), *reading.letters()]:
         yield from of("g", [text])
         if accepted(text):
-            matrix = cox.matrix(model.read(text.encode()))
+            matrix = cox.matrix(model.read(text.encode(), wish=True))
             if matrix not in known:
                 known.append(matrix)
                 yield from of("mn", [text])
 
 
 def accepted(text):
-    return model.answer(text if isinstance(text, bytes) else text.encode()).startswith("ok")
+    return model.answer(text if isinstance(text, bytes) else text.encode(), wish=True).startswith("ok")
 
 
 def cosines(dice):
@@ -194,7 +194,7 @@ def between(shape, fine, none):
     fine, none = int(fine * den), int(none * den)
     while abs(fine - none) > 1:
         middle = (fine + none) // 2
-        if has_mirrors(*model.read(shape.format(middle).encode())):
+        if has_mirrors(*model.read(shape.format(middle).encode(), wish=True)):
             fine = middle
         else:
             none = middle

@@ -148,7 +148,7 @@ def literals(value):
 
 def reads(text, value):
     try:
-        return bits(model.literal(text.encode(), 0, len(text))) == bits(value)
+        return bits(model.literal(text.encode(), 0, len(text), wish=True)) == bits(value)
     except model.Refusal:
         return False
 

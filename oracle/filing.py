@@ -5,8 +5,8 @@ each line of its input.
                    and as its answers the model's
 `filing.py write`  stores them
 
-A line's text ends at the `|`, which no text holds. OOO, VV, LLL and digests are lower-case hexadecimal. A numbering has a digit for each
-place, the number of the text's node there; it is `-` where there are no nodes.
+Texts are read with ticket K6's wish. A line's text ends at the `|`, which no text holds. OOO, VV, LLL and digests are lower-case
+hexadecimal. A numbering has a digit for each place, the number of the text's node there; it is `-` where there are no nodes.
 
     TEXT            ok DIGEST NODES EDGES NUMBERING    the text's record, the counts of the diagram that it is read back to, and the first
                                                        numbering that gives the record; or the text's refusal
@@ -187,18 +187,18 @@ def answer(line):
 
 
 def record_of(text):
-    return record(model.read(text))
+    return record(model.read(text, wish=True))
 
 
 def numbering_of(text):
-    return "".join(map(str, first(model.read(text)))) or "-"
+    return "".join(map(str, first(model.read(text, wish=True)))) or "-"
 
 
 def filed(text):
     try:
         data = record_of(text)
     except model.Refusal:
-        return model.answer(text)
+        return model.answer(text, wish=True)
     nodes, edges = read_back(data)
     return f"ok {digest(data)} {len(nodes)} {len(edges)} {numbering_of(text)}"
 
@@ -230,7 +230,7 @@ def written(text, length):
     try:
         data = record_of(text)
     except model.Refusal:
-        return f"{model.answer(text)} {digest(buffer)}"
+        return f"{model.answer(text, wish=True)} {digest(buffer)}"
     if length < LENGTH:
         return f"no 12 {digest(buffer)}"
     return f"ok {digest(data + buffer[LENGTH:])}"

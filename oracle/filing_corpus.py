@@ -54,7 +54,7 @@ def numbered_twice():
     """What a figure is, and two numberings that must be equal: as found by hand, by both ways of filing.py."""
     dice = chance.Dice(6)
     for text, numbering in BY_HAND.items():
-        yield text, filing.first(model.read(text.encode())), tuple(map(int, numbering))
+        yield text, filing.first(model.read(text.encode(), wish=True)), tuple(map(int, numbering))
     for _ in range(600):
         figure = figures.by_chance(dice, 0, 6)
         yield figure, filing.first(figure), filing.first_by_all(figure)
@@ -103,11 +103,11 @@ def texts(dice):
 def published():
     """The published diagrams of corpus.py that have nodes, each once."""
     listed = [*reading.families(), *reading.stars(), *reading.snubs(), *reading.references(), *reading.spaces(), *reading.letters()]
-    return [text for text in (text.encode() for text in dict.fromkeys(listed)) if accepted(text) and model.read(text)[0]]
+    return [text for text in (text.encode() for text in dict.fromkeys(listed)) if accepted(text) and model.read(text, wish=True)[0]]
 
 
 def accepted(text):
-    return model.answer(text).startswith("ok")
+    return model.answer(text, wish=True).startswith("ok")
 
 
 def some(dice, things, count):
@@ -152,7 +152,7 @@ def large(dice):
 
 def same(dice):
     """Two texts for one figure: of published diagrams, then of figures by chance, with cycles and lone nodes."""
-    drawn = [figures.figure(model.read(text)) for text in some(dice, published(), SAME)]
+    drawn = [figures.figure(model.read(text, wish=True)) for text in some(dice, published(), SAME)]
     drawn += [figures.by_chance(dice, 4, 9) for _ in range(SAME_BY_CHANCE)]
     drawn += [large(dice) for _ in range(SAME_LARGE)]
     for figure in drawn:
@@ -171,7 +171,7 @@ def near(dice):
     """A published diagram, or a large figure, beside itself with one thing changed, each change in turn."""
     known, found = published(), 0
     while found < NEAR + NEAR_LARGE:
-        figure = figures.figure(model.read(dice.pick(known))) if found < NEAR else large(dice)
+        figure = figures.figure(model.read(dice.pick(known), wish=True)) if found < NEAR else large(dice)
         other = figures.CHANGES[found % len(figures.CHANGES)](dice, *figure)
         if other and filing.record(figure) != filing.record(other):
             found += 1
@@ -226,7 +226,7 @@ def symmetric_texts(dice):
     for figure in symmetric():
         plain = tuple(range(len(figure[0])))
         texts = [figures.respelled(dice, figure) for _ in range(9)]
-        yield min(texts, key=lambda text: (filing.first(model.read(text)) == plain, max(45, len(text)))), "ok"
+        yield min(texts, key=lambda text: (filing.first(model.read(text, wish=True)) == plain, max(45, len(text)))), "ok"
 
 
 def symmetric():
@@ -236,7 +236,7 @@ def symmetric():
     texts += ["x" + "3x" * (n - 1) for n in range(3, 10)]                                               # A
     texts += ["x3x3x *b" + "3x" * (n - 3) for n in range(4, 10)]                                        # D
     texts += ["x" + "3x" * (n - 2) + " *c3x" for n in range(6, 10)]                                     # E
-    yield from (figures.figure(model.read(text.encode())) for text in texts)
+    yield from (figures.figure(model.read(text.encode(), wish=True)) for text in texts)
 
     drawn = [(9, ""), (9, "ab cd ef gh"), (9, "ab ac ad ae af ag ah ai")]                               # the last is a star
     drawn += [(count, ring("abcde"[:count])) for count in (3, 4, 5)]

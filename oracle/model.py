@@ -1,6 +1,7 @@
-"""Document 01's reading of a text and ticket K2's edges, from their words alone: the oracle where the Rust has no answer.
+"""Document 01's reading of a text, ticket K2's edges and ticket K6's wish, from their words alone: the oracle where the Rust has no answer.
 
-`answer(text)` gives the line that oracle/rust's `reading` prints. Python's floats are IEEE binary64.
+`answer(text, wish=True)` gives the line that oracle/rust's `reading` prints; without the wish the Rust has no answer of its own to an
+infinite literal. Python's floats are IEEE binary64.
 """
 
 import math
@@ -34,9 +35,9 @@ class Refusal(Exception):
     """Document 01's number, then its fields."""
 
 
-def answer(text):
+def answer(text, wish):
     try:
-        nodes, edges = read(text)
+        nodes, edges = read(text, wish)
     except Refusal as refusal:
         return " ".join(["no", *map(str, refusal.args)])
     words = ["ok", len(nodes), len(edges), int(minimal(nodes, edges))]
@@ -45,8 +46,8 @@ def answer(text):
     return " ".join(map(str, words))
 
 
-def read(text):
-    """The nodes, as pairs of kind and value, and the stored edges, as ends and fraction."""
+def read(text, wish):
+    """The nodes, as pairs of kind and value, and the stored edges, as ends and fraction. The wish is K6's, for infinite lengths."""
     if len(text) > MOST_BYTES:
         raise Refusal(1, MOST_BYTES)
     for at, byte in enumerate(text):
@@ -55,10 +56,10 @@ def read(text):
 
     # "A text is a node, then, while bytes remain, an optional edge and a node."
     nodes, queue = [], []
-    previous, at = read_node(text, 0, nodes)
+    previous, at = read_node(text, 0, nodes, wish)
     while at < len(text):
         edge, at = read_edge(text, at)
-        here, at = read_node(text, at, nodes)
+        here, at = read_node(text, at, nodes, wish)
         if edge:
             queue.append((previous, here, edge))
         previous = here
@@ -78,7 +79,7 @@ def byte_at(text, at):
     return text[at]
 
 
-def read_node(text, at, nodes):
+def read_node(text, at, nodes, wish):
     """A reference, as a function from the count of nodes to an index, and where reading goes on."""
     start = skip_spaces(text, at)
     byte = byte_at(text, start)
@@ -88,7 +89,7 @@ def read_node(text, at, nodes):
         close = text.find(b")", start)
         if close < 0:
             raise Refusal(3, len(text))
-        node, at = ("x", literal(text, start + 1, close)), close + 1
+        node, at = ("x", literal(text, start + 1, close, wish)), close + 1
     elif chr(byte) in LETTERS:
         node, at = LETTERS[chr(byte)], start + 1
     else:
@@ -111,7 +112,7 @@ def read_reference(text, at):
     return (lambda count: count - 1 - k if from_end else k), at + 1
 
 
-def literal(text, start, close):
+def literal(text, start, close, wish):
     # "its last byte; for `()` the `)`"
     last = max(start, close - 1)
     parts = LITERAL.fullmatch(text, start, close)
@@ -121,6 +122,9 @@ def literal(text, start, close):
     if parts["word"]:
         if parts["word"].lower() == b"nan":
             raise Refusal(6, last)
+        # K6: "It refuses an infinite literal read without the wish (23, its last byte)"
+        if not wish:
+            raise Refusal(23, last)
         value = math.inf
     else:
         after, exponent = parts["after"] or b"", parts["exponent"] or b"0"

@@ -9,6 +9,7 @@
 #include "lexicon.h"
 
 #define LEN(array) (sizeof(array) / sizeof(array)[0])
+#define MINUS_INFINITY UINT64_C(0xfff0000000000000)
 #define ANSWER(...) ((const size_t[LEXICON_ANSWER]){__VA_ARGS__}) // with zeros behind the numbers given
 
 enum {
@@ -17,31 +18,30 @@ enum {
     ROOM = (LEXICON_REFLECTIONS + SPARE) * sizeof(double),
 };
 
-// A text, a record or a family: each call takes what it needs.
+// A text and the wish, a record or a family: each call takes what it needs.
 struct input {
     const void *bytes;
     size_t len;
+    size_t wish;
     uint8_t letter;
     size_t size;
 };
 
-// A call has one of these forms; lexicon_write_record, which alone has a numbering, has none of them.
-typedef size_t to_numbers(const uint8_t *bytes, size_t len, uint64_t *out, size_t out_len, size_t answer[LEXICON_ANSWER]);
-typedef size_t to_doubles(const uint8_t *bytes, size_t len, double *out, size_t out_len, size_t answer[LEXICON_ANSWER]);
+// A call has one of these forms, or is the only one of its form.
+typedef size_t to_doubles(const uint8_t *text, size_t len, size_t wish, double *out, size_t out_len, size_t answer[LEXICON_ANSWER]);
 typedef size_t of_family(uint8_t letter, size_t size, double *out, size_t out_len, size_t answer[LEXICON_ANSWER]);
 
 struct call {
     const char *name;
     size_t element; // the bytes of an element of its buffer
     size_t writes;  // the elements that it writes
-    to_numbers *to_numbers;
     to_doubles *to_doubles;
     of_family *of_family;
 };
 
-static const struct call read_text = {"lexicon_read", sizeof(uint64_t), LEXICON_DIAGRAM, .to_numbers = lexicon_read};
-static const struct call write_record = {"lexicon_write_record", sizeof(uint8_t), LEXICON_RECORD, NULL, NULL, NULL};
-static const struct call read_record = {"lexicon_read_record", sizeof(uint64_t), LEXICON_DIAGRAM, .to_numbers = lexicon_read_record};
+static const struct call read_text = {"lexicon_read", sizeof(uint64_t), LEXICON_DIAGRAM, NULL, NULL};
+static const struct call write_record = {"lexicon_write_record", sizeof(uint8_t), LEXICON_RECORD, NULL, NULL};
+static const struct call read_record = {"lexicon_read_record", sizeof(uint64_t), LEXICON_DIAGRAM, NULL, NULL};
 static const struct call matrix = {"lexicon_matrix", sizeof(double), LEXICON_SQUARE, .to_doubles = lexicon_matrix};
 static const struct call mirrors = {"lexicon_mirrors", sizeof(double), LEXICON_SQUARE, .to_doubles = lexicon_mirrors};
 static const struct call generator = {"lexicon_generator", sizeof(double), LEXICON_GENERATOR, .to_doubles = lexicon_generator};
@@ -71,20 +71,22 @@ static void check(bool holds, const char *what)
     if (now->of_family)
         printf("family %u, size %zu", (unsigned)given.letter, given.size);
     else
-        printf("%zu bytes", given.len);
+        printf("%zu bytes, wish %zu", given.len, given.wish);
     printf(", buffer of %zu: %s; answer %zu %zu %zu %zu\n", given_out, what, answer[0], answer[1], answer[2], answer[3]);
     exit(1);
 }
 
 static size_t run(void *buffer)
 {
-    if (now->to_numbers)
-        return now->to_numbers(given.bytes, given.len, buffer, given_out, answer);
     if (now->to_doubles)
-        return now->to_doubles(given.bytes, given.len, buffer, given_out, answer);
+        return now->to_doubles(given.bytes, given.len, given.wish, buffer, given_out, answer);
     if (now->of_family)
         return now->of_family(given.letter, given.size, buffer, given_out, answer);
-    return lexicon_write_record(given.bytes, given.len, buffer, given_out, numbering, answer);
+    if (now == &read_text)
+        return lexicon_read(given.bytes, given.len, given.wish, buffer, given_out, answer);
+    if (now == &read_record)
+        return lexicon_read_record(given.bytes, given.len, buffer, given_out, answer);
+    return lexicon_write_record(given.bytes, given.len, given.wish, buffer, given_out, numbering, answer);
 }
 
 // Whether so many bytes all have this value.
@@ -167,6 +169,11 @@ static struct input text(const char *typed)
     return bytes(typed, strlen(typed));
 }
 
+static struct input wished(const char *typed, size_t wish)
+{
+    return (struct input){.bytes = typed, .len = strlen(typed), .wish = wish};
+}
+
 static struct input family(unsigned letter, size_t size)
 {
     return (struct input){.letter = (uint8_t)letter, .size = size};
@@ -191,6 +198,7 @@ static void expect_accepted_text(struct input in, size_t nodes, size_t edges, bo
 static void accepted_texts(void)
 {
     expect_accepted_text(text("x3o4o"), 3, 2, true);
+    expect_accepted_text(wished("x3o4o", 1), 3, 2, true);
     expect_accepted_text(text("s3s *a4*a"), 2, 2, false);
     expect_accepted_text(text("*a"), 0, 0, true);
     expect_accepted_text(text("ooooooooo"), 9, 0, false);
@@ -232,8 +240,10 @@ static void refused_texts(void)
         {"x4294967294/4294967295o", {7, 4294967294, 4294967295, 21}}, {"x3o3*a", {8, 1, 0}}, {"x3o6/2*a", {8, 1, 0}}, {"x3*a3*a", {8, 0, 0}},
         {"(1e23)", {9, 4}}, {"oooooooooo", {10, 9}}, {"ooooooooo(1)", {10, 9}}, {"x3*c", {11, 0}}, {"x2*c3o3*c", {11, 1}},
     };
-    for (size_t i = 0; i < LEN(refused); i++)
+    for (size_t i = 0; i < LEN(refused); i++) {
         expect_refused_text(text(refused[i].text), refused[i].answer);
+        expect_refused_text(wished(refused[i].text, 1), refused[i].answer);
+    }
 }
 
 // What only the geometers' calls refuse. 15 comes before 16.
@@ -242,15 +252,71 @@ static void refused_geometry(void)
     static const struct call *const need_mirrors[] = {&mirrors, &generator, &reflections};
     for (size_t i = 0; i < LEN(need_mirrors); i++) {
         expect_refusal(need_mirrors[i], text("x4o4o"), ANSWER(15, 2));
-        expect_refusal(need_mirrors[i], text("(inf)4o4o"), ANSWER(15, 2));
+        expect_refusal(need_mirrors[i], wished("(inf)4o4o", 1), ANSWER(15, 2));
     }
-    expect_refusal(&generator, text("(inf)3o"), ANSWER(16, 0));
-    expect_refusal(&generator, text("o3(-Infinity)3(inf)"), ANSWER(16, 1));
+    expect_refusal(&generator, wished("o3(-Infinity)3(inf)", 1), ANSWER(16, 1));
     expect_answer(&matrix, text("x4o4o"), ANSWER(0, 3));
-    expect_answer(&mirrors, text("(inf)3o"), ANSWER(0, 2));
-    expect_answer(&reflections, text("(inf)3o"), ANSWER(0, 2));
-    expect_answer(&read_text, text("(inf)3o"), ANSWER(0, 2, 1, 1));
-    expect_answer(&write_record, text("(inf)3o"), ANSWER(0, 2));
+}
+
+// Texts refused either way. 23 comes as reading meets the literal: before 10, which a faulty node does not get, and before 8 and 11.
+static void refused_infinite_lengths(void)
+{
+    static const struct {
+        const char *text;
+        size_t without[LEXICON_ANSWER], with[LEXICON_ANSWER];
+    } refused[] = {
+        {"ooooooooo(inf)", {23, 12}, {10, 9}}, {"x3*c3(+INF)", {23, 9}, {11, 0}}, {"x3o3*a(inf)", {23, 9}, {8, 1, 0}},
+        {"(inf)1o", {23, 3}, {7, 1, 1, 5}}, {"x1(inf)", {7, 1, 1, 1}, {7, 1, 1, 1}}, {"(nan)(inf)", {6, 3}, {6, 3}},
+        {"(inf", {3, 4}, {3, 4}}, {"(infi)", {5, 4}, {5, 4}}, {"(inf)\xff", {2, 5}, {2, 5}},
+    };
+    for (size_t i = 0; i < LEN(refused); i++) {
+        expect_refused_text(text(refused[i].text), refused[i].without);
+        expect_refused_text(wished(refused[i].text, 1), refused[i].with);
+    }
+}
+
+// Two inputs of which a call tells and writes the same.
+static void expect_same(const struct call *call, struct input one, struct input other, const size_t *wanted)
+{
+    static uint8_t first[ROOM];
+    size_t first_numbering[LEN(numbering)];
+    expect_answer(call, one, wanted);
+    memcpy(first, out, call->writes * call->element);
+    memcpy(first_numbering, numbering, sizeof numbering);
+    expect_answer(call, other, wanted);
+    check(memcmp(first, out, call->writes * call->element) == 0, "it writes something else");
+    check(memcmp(first_numbering, numbering, sizeof numbering) == 0, "its numbering is another");
+}
+
+// A chain whose last length alone is infinite, without the wish and with it. What does not depend on lengths is that of a finite chain.
+static void expect_infinite(const char *typed, const char *finite, size_t nodes, size_t wish)
+{
+    struct input in = wished(typed, wish);
+    expect_refused_text(text(typed), ANSWER(23, strlen(typed) - 2));
+    expect_refusal(&generator, in, ANSWER(16, nodes - 1));
+    expect_same(&read_text, wished(typed, 1), in, ANSWER(0, nodes, nodes - 1, true));
+    expect_same(&write_record, wished(typed, 1), in, ANSWER(0, nodes));
+    expect_same(&matrix, text(finite), in, ANSWER(0, nodes));
+    expect_same(&mirrors, text(finite), in, ANSWER(0, nodes));
+    expect_same(&reflections, text(finite), in, ANSWER(0, nodes));
+}
+
+static void check_bits(size_t node, uint64_t bits)
+{
+    check(((const uint64_t *)out)[2 * node + 1] == bits, "its length is another");
+}
+
+// Every number but 0 is the wish.
+static void wishes(void)
+{
+    static const size_t wish[] = {1, 2, 256, (size_t)1 << 32, SIZE_MAX};
+    for (size_t i = 0; i < LEN(wish); i++) {
+        expect_infinite("(inf)", "x", 1, wish[i]);
+        expect_infinite("x3(-Infinity)", "x3x", 2, wish[i]);
+        expect_same(&write_record, text("x3o4q"), wished("x3o4q", wish[i]), ANSWER(0, 3));
+    }
+    expect(&read_text, wished("x3(-Infinity)", 1), LEXICON_DIAGRAM, ANSWER(0, 2, 1, 1));
+    check_bits(1, MINUS_INFINITY);
 }
 
 static void lengths(void)
@@ -309,11 +375,11 @@ static void bytes_at_every_position(void)
 
 // ---- records
 
-// Writes the record of a text that is accepted.
+// Writes the record of a text that is accepted with the wish.
 static void record_of(const char *typed, uint8_t *record)
 {
     now = &write_record;
-    given = text(typed);
+    given = wished(typed, 1);
     given_out = LEXICON_RECORD;
     check(run(record) == 0, "it refuses the text");
 }
@@ -336,6 +402,7 @@ static void accepted_records(void)
     record_of("(-inf)6/2(-0)", record);
     expect_answer(&read_record, bytes(record, sizeof record), ANSWER(0, 2, 1));
     check_edge(3, 1);
+    check_bits(1, MINUS_INFINITY);
 }
 
 // The record of two nodes, with each byte that is fixed given each other value.
@@ -447,6 +514,8 @@ int main(void)
     lowest_terms();
     refused_texts();
     refused_geometry();
+    refused_infinite_lengths();
+    wishes();
     lengths();
     single_bytes();
     bytes_at_every_position();

@@ -8,6 +8,9 @@
 
 #include "lexicon.h"
 
+// As an editing page has it, no infinite lengths: `(inf)` is refused. An import of old articles would have 1.
+static const size_t wish = 0;
+
 // A text that was accepted, and its record. The place keeps texts of one figure in the order given.
 struct article {
     size_t place;
@@ -24,7 +27,7 @@ static const uint8_t *bytes(const char *text)
 // The refusal's number, then its fields.
 static void print_refusal(const char *what, const size_t *answer)
 {
-    static const size_t fields[] = {0, 1, 1, 1, 1, 1, 1, 3, 2, 1, 1, 1, 0, 0, 0, 1, 1, 0}; // how many, by the number
+    static const size_t fields[] = {0, 1, 1, 1, 1, 1, 1, 3, 2, 1, 1, 1, 0, 0, 0, 1, 1, 0, [23] = 1}; // how many, by the number
     printf("  no %s:", what);
     for (size_t i = 0; i <= fields[answer[0]]; i++)
         printf(" %zu", answer[i]);
@@ -63,7 +66,7 @@ static bool print_diagram(const char *text)
 {
     uint64_t diagram[LEXICON_DIAGRAM];
     size_t answer[LEXICON_ANSWER];
-    if (lexicon_read(bytes(text), strlen(text), diagram, LEXICON_DIAGRAM, answer) != 0) {
+    if (lexicon_read(bytes(text), strlen(text), wish, diagram, LEXICON_DIAGRAM, answer) != 0) {
         print_refusal("diagram", answer);
         return false;
     }
@@ -77,7 +80,7 @@ static bool print_diagram(const char *text)
 static void print_record(struct article *article)
 {
     size_t answer[LEXICON_ANSWER];
-    lexicon_write_record(bytes(article->text), strlen(article->text), article->record, LEXICON_RECORD, article->numbering, answer);
+    lexicon_write_record(bytes(article->text), strlen(article->text), wish, article->record, LEXICON_RECORD, article->numbering, answer);
     article->nodes = answer[1];
     printf("  record: ");
     for (size_t i = 0; i < LEXICON_RECORD; i++)
@@ -92,7 +95,7 @@ static void print_mirrors(const char *text)
 {
     double mirrors[LEXICON_SQUARE];
     size_t answer[LEXICON_ANSWER];
-    if (lexicon_mirrors(bytes(text), strlen(text), mirrors, LEXICON_SQUARE, answer) != 0) {
+    if (lexicon_mirrors(bytes(text), strlen(text), wish, mirrors, LEXICON_SQUARE, answer) != 0) {
         print_refusal("mirrors", answer);
         return;
     }
@@ -109,7 +112,7 @@ static void print_radius(const char *text)
 {
     double generator[LEXICON_GENERATOR];
     size_t answer[LEXICON_ANSWER];
-    if (lexicon_generator(bytes(text), strlen(text), generator, LEXICON_GENERATOR, answer) != 0)
+    if (lexicon_generator(bytes(text), strlen(text), wish, generator, LEXICON_GENERATOR, answer) != 0)
         print_refusal("generator", answer);
     else
         printf("  radius: %.6f\n", generator[9]);

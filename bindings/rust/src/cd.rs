@@ -32,6 +32,8 @@ use crate::{
 #[derive(Clone, Debug)]
 pub struct Cd {
     text: String,
+    /// Whether its lengths may be infinite.
+    wish: bool,
     diagram: Diagram,
     minimal: bool,
 }
@@ -41,7 +43,7 @@ impl Cd {
     ///
     /// # Errors
     ///
-    /// One of the first eleven cases of [`CdError`].
+    /// One of the first eleven cases of [`CdError`], or [`CdError::InfiniteLength`].
     pub fn parse(input: &str) -> CdResult<Self> {
         Self::parse_bytes(input.as_bytes())
     }
@@ -60,10 +62,36 @@ impl Cd {
     /// # Ok::<(), CdError>(())
     /// ```
     pub fn parse_bytes(input: &[u8]) -> CdResult<Self> {
-        let (numbers, [nodes, _, minimal]) = ffi::read(input)?;
+        Self::read(input, false)
+    }
+
+    /// Reads a diagram whose lengths may be infinite, from a text or from bytes: for an import of
+    /// old articles, and for programs that rely on what miratope-core's `Cd::parse` takes.
+    ///
+    /// # Errors
+    ///
+    /// One of the first eleven cases of [`CdError`].
+    ///
+    /// ```
+    /// use lexicon::{Cd, CdError, Node};
+    ///
+    /// let imported = Cd::parse_with_infinite("(inf)3o")?;
+    /// assert_eq!(imported.nodes(), [Node::Ringed(f64::INFINITY), Node::Unringed]);
+    /// assert_eq!(imported.generator().unwrap_err(), CdError::Infinite { node: 0 });
+    ///
+    /// assert_eq!(Cd::parse("(inf)3o").unwrap_err(), CdError::InfiniteLength { pos: 3 });
+    /// # Ok::<(), CdError>(())
+    /// ```
+    pub fn parse_with_infinite(input: impl AsRef<[u8]>) -> CdResult<Self> {
+        Self::read(input.as_ref(), true)
+    }
+
+    fn read(input: &[u8], wish: bool) -> CdResult<Self> {
+        let (numbers, [nodes, _, minimal]) = ffi::read(input, wish)?;
         Ok(Self {
             // Refusal 2 leaves only ASCII, which this copies as it is.
             text: String::from_utf8_lossy(input).into_owned(),
+            wish,
             diagram: Diagram::from_numbers(&numbers, nodes),
             minimal: minimal == 1,
         })
@@ -165,7 +193,7 @@ impl Cd {
     /// ```
     #[must_use]
     pub fn record_and_numbering(&self) -> (Record, Vec<usize>) {
-        let (bytes, numbering) = answered(ffi::write_record(self.text.as_bytes()));
+        let (bytes, numbering) = answered(ffi::write_record(self.text.as_bytes(), self.wish));
         (Record::from_trusted_bytes(&bytes), numbering)
     }
 
@@ -198,7 +226,7 @@ impl Cd {
     /// The Coxeter matrix: 1 on the diagonal, an edge's value where it joins two nodes, else 2.
     #[must_use]
     pub fn cox(&self) -> Cox {
-        answered(Cox::parse(&self.text))
+        answered(Cox::read(&self.text, self.wish))
     }
 
     /// The generator point as miratope-core computes it: the x for which the matrix of
@@ -210,7 +238,7 @@ impl Cd {
     /// # Errors
     ///
     /// [`CdError::Crowded`] if the mirrors don't exist, else [`CdError::Infinite`] if a length is
-    /// infinite.
+    /// infinite, which only [`Cd::parse_with_infinite`] takes.
     ///
     /// ```
     /// use lexicon::{Cd, CdError};
@@ -224,7 +252,7 @@ impl Cd {
     /// # Ok::<(), CdError>(())
     /// ```
     pub fn generator(&self) -> CdResult<Generator> {
-        let (doubles, [nodes, ..]) = ffi::generator(self.text.as_bytes())?;
+        let (doubles, [nodes, ..]) = ffi::generator(self.text.as_bytes(), self.wish)?;
         Ok(Generator {
             coordinates: doubles[..nodes].to_vec(),
             radius: doubles[LIMIT],
@@ -255,7 +283,7 @@ impl Cd {
     /// # Ok::<(), lexicon::CdError>(())
     /// ```
     pub fn reflections(&self) -> CdResult<Vec<Matrix>> {
-        let (doubles, [nodes, ..]) = ffi::reflections(self.text.as_bytes())?;
+        let (doubles, [nodes, ..]) = ffi::reflections(self.text.as_bytes(), self.wish)?;
         let squares = doubles.chunks(SQUARE).take(nodes);
         Ok(squares
             .map(|square| Matrix::from_square(square, nodes))
@@ -263,7 +291,7 @@ impl Cd {
     }
 }
 
-/// The answer to a call that refuses nothing but texts, of a text that was accepted.
+/// The answer to a call that refuses nothing but texts, of a text that was accepted with this wish.
 fn answered<T>(result: CdResult<T>) -> T {
     result.unwrap_or_else(|e| unreachable!("an accepted text was refused: {e}"))
 }

@@ -32,20 +32,28 @@ pub struct Cox {
 /// What the library computes the mirrors from, since it takes no matrix.
 #[derive(Clone, Debug)]
 enum Source {
-    Text(String),
+    Text { text: String, wish: bool },
     Family { letter: u8, size: usize },
 }
 
 impl Cox {
-    /// Reads a diagram and turns it into its matrix.
+    /// Reads a diagram and turns it into its matrix. For a text with infinite lengths, which play no
+    /// part in the matrix, take [`Cd::cox`](crate::Cd::cox) of
+    /// [`Cd::parse_with_infinite`](crate::Cd::parse_with_infinite).
     ///
     /// # Errors
     ///
     /// As [`Cd::parse`](crate::Cd::parse).
     pub fn parse(input: &str) -> CdResult<Self> {
-        let (square, [dim, ..]) = ffi::matrix(input.as_bytes())?;
+        Self::read(input, false)
+    }
+
+    /// With the wish, lengths may be infinite.
+    pub(crate) fn read(input: &str, wish: bool) -> CdResult<Self> {
+        let (square, [dim, ..]) = ffi::matrix(input.as_bytes(), wish)?;
+        let text = input.to_owned();
         Ok(Self {
-            source: Source::Text(input.to_owned()),
+            source: Source::Text { text, wish },
             matrix: Matrix::from_square(&square, dim),
         })
     }
@@ -131,7 +139,7 @@ impl Cox {
     /// ```
     pub fn normals(&self) -> CdResult<Matrix> {
         let (square, [dim, ..]) = match &self.source {
-            Source::Text(text) => ffi::mirrors(text.as_bytes())?,
+            Source::Text { text, wish } => ffi::mirrors(text.as_bytes(), *wish)?,
             Source::Family { letter, size } => ffi::family_mirrors(*letter, *size)?,
         };
         Ok(Matrix::from_square(&square, dim))

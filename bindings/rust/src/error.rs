@@ -123,11 +123,18 @@ pub enum CdError {
 
     /// No family has this letter and size.
     NoFamily,
+
+    /// A text has an infinite length, such as `(inf)`, and was not read by
+    /// [`Cd::parse_with_infinite`](crate::Cd::parse_with_infinite).
+    InfiniteLength {
+        /// Its last byte before the `)`.
+        pos: usize,
+    },
 }
 
 impl CdError {
-    /// The number of this refusal in the specification and in `lexicon.h`, 1 to 17, for logs and
-    /// for messages to programs in other languages.
+    /// The number of this refusal in the specification and in `lexicon.h`, 1 to 17 or 23, for
+    /// logs and for messages to programs in other languages.
     #[must_use]
     pub fn number(&self) -> u32 {
         match self {
@@ -148,6 +155,7 @@ impl CdError {
             Self::Crowded { .. } => 15,
             Self::Infinite { .. } => 16,
             Self::NoFamily => 17,
+            Self::InfiniteLength { .. } => 23,
         }
     }
 
@@ -175,6 +183,7 @@ impl CdError {
             15 => Self::Crowded { column: a },
             16 => Self::Infinite { node: a },
             17 => Self::NoFamily,
+            23 => Self::InfiniteLength { pos: a },
             _ => unreachable!("lexicon.h has no refusal {number}"),
         }
     }
@@ -207,6 +216,7 @@ impl fmt::Display for CdError {
             }
             Self::Infinite { node } => write!(f, "infinite length at node {node}"),
             Self::NoFamily => write!(f, "no family of this letter and size"),
+            Self::InfiniteLength { pos } => write!(f, "infinite length at position {pos}"),
         }
     }
 }

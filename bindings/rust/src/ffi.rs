@@ -19,13 +19,15 @@ pub const REFLECTIONS: usize = 729;
 /// What a call writes, and the three numbers that it tells of it.
 pub type Written<T, const N: usize> = CdResult<([T; N], [usize; ANSWER - 1])>;
 
-type OfBytes<T> = unsafe extern "sysv64" fn(*const u8, usize, *mut T, usize, *mut usize) -> usize;
+type OfText<T> =
+    unsafe extern "sysv64" fn(*const u8, usize, usize, *mut T, usize, *mut usize) -> usize;
 type OfFamily = unsafe extern "sysv64" fn(u8, usize, *mut f64, usize, *mut usize) -> usize;
 
 extern "sysv64" {
     fn lexicon_read(
         text: *const u8,
         text_len: usize,
+        wish: usize,
         out: *mut u64,
         out_len: usize,
         answer: *mut usize,
@@ -34,6 +36,7 @@ extern "sysv64" {
     fn lexicon_write_record(
         text: *const u8,
         text_len: usize,
+        wish: usize,
         out: *mut u8,
         out_len: usize,
         numbering: *mut usize,
@@ -51,6 +54,7 @@ extern "sysv64" {
     fn lexicon_matrix(
         text: *const u8,
         text_len: usize,
+        wish: usize,
         out: *mut f64,
         out_len: usize,
         answer: *mut usize,
@@ -59,6 +63,7 @@ extern "sysv64" {
     fn lexicon_mirrors(
         text: *const u8,
         text_len: usize,
+        wish: usize,
         out: *mut f64,
         out_len: usize,
         answer: *mut usize,
@@ -67,6 +72,7 @@ extern "sysv64" {
     fn lexicon_generator(
         text: *const u8,
         text_len: usize,
+        wish: usize,
         out: *mut f64,
         out_len: usize,
         answer: *mut usize,
@@ -75,6 +81,7 @@ extern "sysv64" {
     fn lexicon_reflections(
         text: *const u8,
         text_len: usize,
+        wish: usize,
         out: *mut f64,
         out_len: usize,
         answer: *mut usize,
@@ -97,31 +104,27 @@ extern "sysv64" {
     ) -> usize;
 }
 
-/// Tells the nodes, the stored edges and whether the diagram is minimal.
-pub fn read(text: &[u8]) -> Written<u64, DIAGRAM> {
-    of_bytes(lexicon_read, text)
-}
-
-/// Tells the nodes and the edges.
-pub fn read_record(bytes: &[u8]) -> Written<u64, DIAGRAM> {
-    of_bytes(lexicon_read_record, bytes)
+/// Tells the nodes, the stored edges and whether the diagram is minimal. Here and below, lengths may
+/// be infinite with the wish.
+pub fn read(text: &[u8], wish: bool) -> Written<u64, DIAGRAM> {
+    of_text(lexicon_read, text, wish)
 }
 
 /// Tells the nodes, as do all the calls below.
-pub fn matrix(text: &[u8]) -> Written<f64, SQUARE> {
-    of_bytes(lexicon_matrix, text)
+pub fn matrix(text: &[u8], wish: bool) -> Written<f64, SQUARE> {
+    of_text(lexicon_matrix, text, wish)
 }
 
-pub fn mirrors(text: &[u8]) -> Written<f64, SQUARE> {
-    of_bytes(lexicon_mirrors, text)
+pub fn mirrors(text: &[u8], wish: bool) -> Written<f64, SQUARE> {
+    of_text(lexicon_mirrors, text, wish)
 }
 
-pub fn generator(text: &[u8]) -> Written<f64, GENERATOR> {
-    of_bytes(lexicon_generator, text)
+pub fn generator(text: &[u8], wish: bool) -> Written<f64, GENERATOR> {
+    of_text(lexicon_generator, text, wish)
 }
 
-pub fn reflections(text: &[u8]) -> Written<f64, REFLECTIONS> {
-    of_bytes(lexicon_reflections, text)
+pub fn reflections(text: &[u8], wish: bool) -> Written<f64, REFLECTIONS> {
+    of_text(lexicon_reflections, text, wish)
 }
 
 pub fn family_matrix(letter: u8, size: usize) -> Written<f64, SQUARE> {
@@ -133,7 +136,7 @@ pub fn family_mirrors(letter: u8, size: usize) -> Written<f64, SQUARE> {
 }
 
 /// The record, and the numbering that gives it, which has a place for each node.
-pub fn write_record(text: &[u8]) -> CdResult<([u8; RECORD], Vec<usize>)> {
+pub fn write_record(text: &[u8], wish: bool) -> CdResult<([u8; RECORD], Vec<usize>)> {
     let mut out = [0; RECORD];
     let mut numbering = [0; LIMIT];
     let mut answer = [0; ANSWER];
@@ -142,6 +145,7 @@ pub fn write_record(text: &[u8]) -> CdResult<([u8; RECORD], Vec<usize>)> {
         lexicon_write_record(
             text.as_ptr(),
             text.len(),
+            usize::from(wish),
             out.as_mut_ptr(),
             out.len(),
             numbering.as_mut_ptr(),
@@ -152,15 +156,37 @@ pub fn write_record(text: &[u8]) -> CdResult<([u8; RECORD], Vec<usize>)> {
     Ok((out, numbering[..nodes].to_vec()))
 }
 
-/// `call` is one of the header's that take bytes.
-fn of_bytes<T: Copy + Default, const N: usize>(call: OfBytes<T>, bytes: &[u8]) -> Written<T, N> {
+/// The diagram of a record: tells the nodes and the edges.
+pub fn read_record(bytes: &[u8]) -> Written<u64, DIAGRAM> {
+    let mut out = [0; DIAGRAM];
+    let mut answer = [0; ANSWER];
+    // SAFETY: the lengths are the slice's and the array's own, and the header's for the answer.
+    unsafe {
+        lexicon_read_record(
+            bytes.as_ptr(),
+            bytes.len(),
+            out.as_mut_ptr(),
+            out.len(),
+            answer.as_mut_ptr(),
+        )
+    };
+    Ok((out, told(answer)?))
+}
+
+/// `call` is one of the header's that take a text and have no numbering.
+fn of_text<T: Copy + Default, const N: usize>(
+    call: OfText<T>,
+    text: &[u8],
+    wish: bool,
+) -> Written<T, N> {
     let mut out = [T::default(); N];
     let mut answer = [0; ANSWER];
     // SAFETY: the lengths are the slice's and the array's own, and the header's for the answer.
     unsafe {
         call(
-            bytes.as_ptr(),
-            bytes.len(),
+            text.as_ptr(),
+            text.len(),
+            usize::from(wish),
             out.as_mut_ptr(),
             N,
             answer.as_mut_ptr(),

@@ -22,7 +22,8 @@
 //!
 //! A text has at most 255 bytes, all of them ASCII, and nine nodes; a length in parentheses has at
 //! most 15 digits, three exponent digits and a power of ten from −22 to 22. What is beyond a limit
-//! is refused.
+//! is refused. So is an infinite length, such as `(inf)` typed for a placeholder, unless
+//! [`Cd::parse_with_infinite`] reads the text.
 //!
 //! # What it needs
 //!
@@ -36,9 +37,9 @@
 //!
 //! | miratope-core | here |
 //! |---|---|
-//! | `CdBuilder`: `new`, `build` | [`Cd::parse`] |
+//! | `Cd::parse`; `CdBuilder`: `new`, `build` | [`Cd::parse_with_infinite`], or [`Cd::parse`], which refuses infinite lengths |
 //! | `CdResult`; `CdError`, its cases and words | the same, with more cases; what miratope-core panics on, such as `(`, `x ` and `x3*c`, is refused |
-//! | `Cd`: `parse`, `dim`, `node_count`, `edge_count`, `node_iter`, `nodes`, `minimal`, `cox`; its `Display` | the same, with the fractions of `Display` in lowest terms |
+//! | `Cd`: `dim`, `node_count`, `edge_count`, `node_iter`, `nodes`, `minimal`, `cox`; its `Display` | the same, with the fractions of `Display` in lowest terms |
 //! | `Cd::node_vector` | the same, as a `Vec` |
 //! | `Cd::raw_nodes`, `Cd::raw_edges` | [`Cd::diagram`]: its `nodes` and its `edges`, the lower node first, fractions in lowest terms |
 //! | `Cd::generator`, `Cd::circumradius` | the same, with a [`CdError`] for `None` and for infinite lengths; the point is a [`Generator`] |
@@ -49,7 +50,8 @@
 //! | `Edge`: `num`, `den`, `value`, `eq_two`; its `Display` | the same; `eq_two` does not wrap |
 //! | `Edge::rational`, `Edge::int` | none: an [`Edge`] is plain data, and [`Cd::parse`] tests those of a text |
 //! | `NodeRef`: its cases, `new`, `index`; `EdgeRef`: `first`, `other`, `edge`, `new`, `indices` | none: [`Cd::parse`] finds the nodes that references mean; [`StoredEdge`] has them |
-//! | `Cox`: `parse`, `dim`, `cox[(i, j)]`, `==`; `From<Cd>` for `Cox` | the same |
+//! | `Cox::parse` | [`Cd::parse_with_infinite`] and [`Cd::cox`] of that, or [`Cox::parse`], which refuses infinite lengths |
+//! | `Cox`: `dim`, `cox[(i, j)]`, `==`; `From<Cd>` for `Cox` | the same |
 //! | `Cox`: `a`, `b`, `d`, `e`, `h` | the same, with a [`CdError`] for a panic and for sizes above nine |
 //! | `Cox::trivial` | [`Cox::a`] of 1 |
 //! | `Cox::from_lin_diagram_iter`; `Cox::from_lin_diagram` and `Cox::i2`, which panic | [`Cox::parse`] of the chain as a text, such as `o7o` |

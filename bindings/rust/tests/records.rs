@@ -115,7 +115,7 @@ fn corresponding_nodes_carry_one_diagram_onto_the_other() {
 #[test]
 fn round_trips_by_bytes_and_by_digits() {
     for text in ["*a", "x", "x3o4o", "s5/2s3s", "(inf)3(-0)7/3o", "ooooooo"] {
-        let record = record(text);
+        let record = Cd::parse_with_infinite(text).unwrap().record();
         assert_eq!(Record::from_bytes(record.as_bytes()), Ok(record));
         assert_eq!(Record::from_trusted_bytes(record.as_bytes()), record);
         let bytes: &[u8] = record.as_ref();

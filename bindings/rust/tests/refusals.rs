@@ -7,8 +7,8 @@ use lexicon::{Cd, CdError, CdResult, Cox, Record};
 
 const SPACES: [u8; 256] = [b' '; 256];
 
-/// Texts that are refused with 1 to 11, in the order of these numbers.
-fn refused_texts() -> [(&'static [u8], CdError); 11] {
+/// Texts that are refused with 1 to 11 and 23, in the order of these numbers.
+fn refused_texts() -> [(&'static [u8], CdError); 12] {
     let (num, den, pos) = (u32::MAX - 1, u32::MAX, 21);
     [
         (&SPACES, CdError::TooLong { pos: 255 }),
@@ -25,12 +25,13 @@ fn refused_texts() -> [(&'static [u8], CdError); 11] {
         (b"x3(1e23)", CdError::OutOfRange { pos: 6 }),
         (b"xxxxxxxxx3(1)", CdError::TooManyNodes { pos: 10 }),
         (b"x2*c3o3*c", CdError::MissingNode { edge: 1 }),
+        (b"x3(-Infinity)", CdError::InfiniteLength { pos: 11 }),
     ]
 }
 
 #[test]
 fn texts_by_every_call_that_reads_one() {
-    for (number, (bytes, refusal)) in (1..).zip(refused_texts()) {
+    for (number, (bytes, refusal)) in (1..=11).chain([23]).zip(refused_texts()) {
         assert_eq!(Cd::parse_bytes(bytes).unwrap_err(), refusal);
         assert_eq!(refusal.number(), number);
         if let Ok(text) = std::str::from_utf8(bytes) {
@@ -38,6 +39,8 @@ fn texts_by_every_call_that_reads_one() {
             assert_eq!(text.parse::<Cd>().unwrap_err(), refusal);
             assert_eq!(Cox::parse(text).unwrap_err(), refusal);
         }
+        let wished = Cd::parse_with_infinite(bytes);
+        assert_eq!(wished.err(), (number != 23).then_some(refusal));
     }
 }
 
@@ -62,6 +65,7 @@ fn texts_in_words() {
         "number out of range at position 6",
         "too many nodes at position 10",
         "missing node in edge 1",
+        "infinite length at position 11",
     ];
     assert_eq!(refused_texts().map(|(_, e)| e.to_string()), words);
 }
@@ -113,7 +117,7 @@ fn mirrors_and_what_needs_them() -> CdResult<()> {
     let refusal = CdError::Crowded { column: 2 };
     // 15 comes before 16, so the infinite length goes unseen.
     for text in ["x6o3o", "x4o4o", "(inf)4o4o"] {
-        let cd = Cd::parse(text)?;
+        let cd = Cd::parse_with_infinite(text)?;
         assert_eq!(cd.cox().normals(), Err(refusal));
         assert_eq!(cd.generator(), Err(refusal));
         assert_eq!(cd.circumradius(), Err(refusal));
@@ -127,7 +131,7 @@ fn mirrors_and_what_needs_them() -> CdResult<()> {
 #[test]
 fn infinite_lengths() -> CdResult<()> {
     let refusal = CdError::Infinite { node: 1 };
-    let cd = Cd::parse("x3(-inf)3(inf)")?;
+    let cd = Cd::parse_with_infinite("x3(-inf)3(inf)")?;
     assert_eq!(cd.generator(), Err(refusal));
     assert_eq!(cd.circumradius(), Err(refusal));
     let words = "infinite length at node 1";

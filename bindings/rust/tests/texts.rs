@@ -1,8 +1,6 @@
 //! Texts at the limits and beyond: each ends with a diagram or with a refusal.
 
-#![allow(clippy::float_cmp, reason = "3 and 0 are exact")]
-
-use lexicon::{Cd, CdError, CdResult, Node};
+use lexicon::{Cd, CdError, CdResult, Cox, Node};
 
 fn refusal(text: &[u8]) -> CdError {
     Cd::parse_bytes(text).unwrap_err()
@@ -65,14 +63,36 @@ fn at_most_nine_nodes() {
 }
 
 #[test]
-fn infinite_lengths_are_lengths() -> CdResult<()> {
-    let cd = Cd::parse("(inf)3(-Infinity)")?;
+fn infinite_lengths_are_refused_as_they_are_met() {
+    let unwished = |pos| CdError::InfiniteLength { pos };
+    assert_eq!(refusal(b"(inf)"), unwished(3));
+    assert_eq!(refusal(b"(-Infinity)"), unwished(9));
+    assert_eq!(refusal(b"ooooooooo(+iNf)"), unwished(13)); // no tenth node, as it has a fault
+    assert_eq!(refusal(b"x3*c(inf)"), unwished(7)); // nodes are missed only after the text
+    assert_eq!(refusal(b"x1(inf)").number(), 7);
+}
+
+#[test]
+fn infinite_lengths_are_lengths_if_wished() -> CdResult<()> {
+    let cd = Cd::parse_with_infinite("(inf)3(-Infinity)")?;
     let nodes = [Node::Ringed(f64::INFINITY), Node::Ringed(f64::NEG_INFINITY)];
     assert_eq!(cd.nodes(), nodes);
     assert_eq!(cd.record().diagram().nodes, nodes);
-    assert_eq!(cd.cox()[(0, 1)], 3.0);
-    assert_eq!(cd.reflections()?.len(), 2);
+    let turned = Cd::parse_with_infinite(b"(-INF)3(+inf)")?;
+    assert_eq!(cd.corresponding_nodes(&turned), Some(vec![1, 0]));
+    assert_eq!(cd.cox(), Cox::parse("x3x")?);
+    assert_eq!(cd.cox().normals(), Cox::parse("x3x")?.normals());
+    assert_eq!(cd.reflections(), Cd::parse("x3x")?.reflections());
     assert_eq!(cd.generator().unwrap_err(), CdError::Infinite { node: 0 });
+    Ok(())
+}
+
+#[test]
+fn the_wish_changes_nothing_for_finite_lengths() -> CdResult<()> {
+    let [cd, wished] = [Cd::parse("q3o4s")?, Cd::parse_with_infinite("q3o4s")?];
+    assert_eq!(cd.diagram(), wished.diagram());
+    assert_eq!(cd.record_and_numbering(), wished.record_and_numbering());
+    assert_eq!(cd.generator(), wished.generator());
     Ok(())
 }
 
@@ -101,7 +121,8 @@ fn read_from_many_threads_at_once() {
         "x3o4o", "o4o3x", "*a", "x1o", "(inf)", "x4o4o", "s5s3s", "oooooo",
     ];
     let answers = |text: &str| {
-        Cd::parse(text).map(|cd| (cd.record_and_numbering(), cd.generator(), cd.minimal()))
+        Cd::parse_with_infinite(text)
+            .map(|cd| (cd.record_and_numbering(), cd.generator(), cd.minimal()))
     };
     let alone = texts.map(answers);
     std::thread::scope(|scope| {

@@ -2,6 +2,7 @@
 -- text has at most `limit` nodes, and a refusal numbers none. Blocks put together are the whole output, which is one only, since the call's answer is. Assumes nothing.
 use Prim.Native.Nat.{ℕ, _≤_, _<_}
 use Prim.Native.Char.{code}
+use mathlib.Core.Bool.{Bool}
 use mathlib.Core.List.{List, [], _∷_, _++_, map}
 use mathlib.Core.Path.{_≡_, sym, ap, ap₂, _∙_}
 use native.Mathlib.Omega.{arith}
@@ -42,22 +43,22 @@ module _ {a b c : List ℕ} {i j k : ℕ} (x : Answer) (bytes p : List ℕ) wher
 
 -- ---- an answer of `write_record`
 
-module _ {text out out′ : List ℕ} {r : Filed} where
-  pub few-places : Files text out out′ r → r .count ≤ limit
+module _ {wish : Bool} {text out out′ : List ℕ} {r : Filed} where
+  pub few-places : Files wish text out out′ r → r .count ≤ limit
   few-places (refused h e k) = rw e (omega arith)
   few-places (short h s e k) = rw e (omega arith)
-  few-places (filed {ns} {es} h l a n w) = rw n (accepted-few text ns es h)
+  few-places (filed {ns} {es} h l a n w) = rw n (accepted-few wish text ns es h)
 
-  pub one-digit : Files text out out′ r → (i : ℕ) → i < r .count → getD (r .numbering) i 0 < 10
+  pub one-digit : Files wish text out out′ r → (i : ℕ) → i < r .count → getD (r .numbering) i 0 < 10
   unfolding diagram
   one-digit (refused h e k) i l = let z : ⊥ = omega (arith, ap (λ (y : Filed). y .count) e) in absurd z
   one-digit (short h s e k) i l = let z : ⊥ = omega (arith, ap (λ (y : Filed). y .count) e) in absurd z
   one-digit (filed {ns} {es} h s a n w) i l =
       let b = written-numbers w .within i (rw n at l) in
-      omega (arith, accepted-few text ns es h)
+      omega (arith, accepted-few wish text ns es h)
 
-  pub shows-line : {a b c : List ℕ} {i j k : ℕ} → Files text out out′ r → recordLength limit ≤ length out → length out′ ≤ recordLength limit
-      → Adds a i b j (shown (r .answer) out′ (take (r .count) (r .numbering))) → Adds b j c k (ascii "\n") → AddsLine Shows text a i c k
+  pub shows-line : {a b c : List ℕ} {i j k : ℕ} → Files wish text out out′ r → recordLength limit ≤ length out → length out′ ≤ recordLength limit
+      → Adds a i b j (shown (r .answer) out′ (take (r .count) (r .numbering))) → Adds b j c k (ascii "\n") → AddsLine (Shows wish) text a i c k
   shows-line f l m p q = record {
     bytes = shown (r .answer) out′ (take (r .count) (r .numbering)) ++ ascii "\n";
     allowed = record { out = out; out′ = out′; filed = r; files = f; long = l; line = rw (take-all (recordLength limit) out′ m) };
@@ -66,7 +67,7 @@ module _ {text out out′ : List ℕ} {r : Filed} where
 
 -- ---- the whole output
 
-pub blocks-show : {input output : List ℕ} → Blocks Shows input 0 output → ShowsAll input output
+pub blocks-show : {wish : Bool} {input output : List ℕ} → Blocks (Shows wish) input 0 output → ShowsAll wish input output
 blocks-show b = blocks-answer b
 
 abbrev lineOf : Filed → List ℕ → List ℕ
@@ -76,13 +77,13 @@ line-refused : {e : CdError} (r : Filed) (bytes : List ℕ) → r ≡ refusal e 
 unfolding shown
 line-refused r bytes h = rw h
 
-shows-once : (text x y : List ℕ) → Shows text x → Shows text y → x ≡ y
-shows-once text x y a b = a .line ∙ ap (λ l. l ++ ascii "\n") (go (a .files)) ∙ sym (b .line)
+shows-once : (wish : Bool) (text x y : List ℕ) → Shows wish text x → Shows wish text y → x ≡ y
+shows-once wish text x y a b = a .line ∙ ap (λ l. l ++ ascii "\n") (go (a .files)) ∙ sym (b .line)
   where
-    go : Files text (a .out) (a .out′) (a .filed) → lineOf (a .filed) (take (recordLength limit) (a .out′)) ≡ lineOf (b .filed) (take (recordLength limit) (b .out′))
+    go : Files wish text (a .out) (a .out′) (a .filed) → lineOf (a .filed) (take (recordLength limit) (a .out′)) ≡ lineOf (b .filed) (take (recordLength limit) (b .out′))
     go (refused h e k) = line-refused (a .filed) _ e ∙ sym (line-refused (b .filed) _ (on-refused (b .files) h .0))
     go (short h s e k) = let l = a .long in absurd (omega arith)
     go (filed h s e n w) = let (bytes, same) = one-filing h (a .long) (b .long) (a .files) (b .files) in ap₂ lineOf same bytes
 
-pub one-showing : (input : List ℕ) {x y : List ℕ} → ShowsAll input x → ShowsAll input y → x ≡ y
-one-showing input a b = answered-once shows-once a b
+pub one-showing : (wish : Bool) (input : List ℕ) {x y : List ℕ} → ShowsAll wish input x → ShowsAll wish input y → x ≡ y
+one-showing wish input a b = answered-once (shows-once wish) a b

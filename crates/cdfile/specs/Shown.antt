@@ -2,6 +2,7 @@
 -- and the refusal as `cdlist` writes it; with LF after each line.
 use Prim.Native.Nat.{ℕ, _+_, _-_, _/_, _%_, _*_, _≤_, _<_}
 use Prim.Native.Char.{code}
+use mathlib.Core.Bool.{Bool}
 use mathlib.Core.List.{List, [], _∷_, _++_, map}
 use mathlib.Core.Logic.{_≢_}
 use mathlib.Core.Path.{_≡_}
@@ -39,17 +40,17 @@ abbrev pub longest : ℕ
 longest = 2 + 2 * recordLength limit + limit + 3
 
 -- what is written on a text: `write_record` was called with an output buffer
-pub record Shows (text bytes : List ℕ) : Type 0 where
+pub record Shows (wish : Bool) (text bytes : List ℕ) : Type 0 where
   pub out : List ℕ
   pub out′ : List ℕ
   pub filed : Filed
-  pub files : Files text out out′ filed
+  pub files : Files wish text out out′ filed
   pub long : recordLength limit ≤ length out
   pub line : bytes ≡ shown (filed .answer) (take (recordLength limit) out′) (take (filed .count) (filed .numbering)) ++ ascii "\n"
 
 -- the whole output on bytes that are filed
-abbrev pub ShowsAll : List ℕ → List ℕ → Type 0
-ShowsAll input output = Answered Shows (lines input) output
+abbrev pub ShowsAll : Bool → List ℕ → List ℕ → Type 0
+ShowsAll wish input output = Answered (Shows wish) (lines input) output
 
 -- r is the place after the last LF, or 0
 pub record LastEnd (s : List ℕ) (r : ℕ) : Type 0 where

@@ -1,5 +1,5 @@
 // The editor's program `cdfile`: a text a line, read as `cdlist` reads them, and on each its filing record and the numbering that
-// gives it. Lines with the same record are one figure.
+// gives it. Lines with the same record are one figure. Its argument may be the wish for infinite lengths.
 use cd::LIMIT;
 use lexicon::Filed;
 use lines::Block;
@@ -76,20 +76,20 @@ fn put_filed(out: &mut [u8], at: usize, r: Filed, bytes: &[u8]) -> usize
     }
 }
 
-fn line(text: &[u8], out: &mut [u8], at: usize) -> usize
+fn line(text: &[u8], wish: bool, out: &mut [u8], at: usize) -> usize
     requires { ⌜ at + longest ≤ length (now out) ⌝ }
-    ensures { λ r. ⌜ AddsLine Shows (now (text .entry)) (now (out .entry)) at (now (out .exit)) r × (r ≤ at + longest) ⌝ }
+    ensures { λ r. ⌜ AddsLine (Shows wish) (now (text .entry)) (now (out .entry)) at (now (out .exit)) r × (r ≤ at + longest) ⌝ }
 {
     let mut bytes = [0u8; RECORD];
-    let r = lexicon::write_record(text, &mut bytes);
+    let r = lexicon::write_record(text, wish, &mut bytes);
     let to = put_filed(out, at, r, &bytes);
     lines::put(out, to, b'\n')
 }
 
 // Answers lines from `from` on, as many as the buffer has room for.
-fn block(s: &[u8], from: usize, out: &mut [u8]) -> Block
+fn block(s: &[u8], from: usize, wish: bool, out: &mut [u8]) -> Block
     requires { ⌜ (from < length (now s)) × (longest ≤ length (now out)) ⌝ }
-    ensures { λ r. ⌜ IsBlock Shows (now (s .entry)) from (now (out .exit)) (r .next) (r .to) × (from < r .next) × (r .to ≤ length (now (out .exit))) ⌝ }
+    ensures { λ r. ⌜ IsBlock (Shows wish) (now (s .entry)) from (now (out .exit)) (r .next) (r .to) × (from < r .next) × (r .to ≤ length (now (out .exit))) ⌝ }
 {
     let mut i = from;
     let mut to = 0;
@@ -98,7 +98,7 @@ fn block(s: &[u8], from: usize, out: &mut [u8]) -> Block
             return Block { next: i, to: to };
         }
         let end = lines::line_end(s, i);
-        to = line(&s[i..end], out, to);
+        to = line(&s[i..end], wish, out, to);
         i = end + 1;
     }
     Block { next: i, to: to }
@@ -134,13 +134,17 @@ fn to_file(text: &[u8]) -> usize
 }
 
 fn main() {
+    let argument = lines::read_argument();
+    if !argument.known {
+        return;
+    }
     let mut text = io::large_buffer();
     let read = lines::read_input(&mut text);
     let n = to_file(&text[..read]);
     let mut out = lines::buffer();
     let mut from = 0;
     while from < n {
-        let b = block(&text[..n], from, &mut out);
+        let b = block(&text[..n], from, argument.infinite, &mut out);
         let to = b.to;
         if !lines::write_output(&out[..to]) {
             return;

@@ -14,11 +14,11 @@ abbrev pub longest : ℕ
 longest = 2 + 4 * 21 + 1
 
 -- what is written on a text, with "LF after each line"
-pub record Listed (text bytes : List ℕ) : Type 0 where
+pub record Listed (wish : Bool) (text bytes : List ℕ) : Type 0 where
   pub minimal : Bool
-  pub mark : Marks (read text) minimal
-  pub line : bytes ≡ answerOf (read text) minimal ++ ascii "\n"
+  pub mark : Marks (read wish text) minimal
+  pub line : bytes ≡ answerOf (read wish text) minimal ++ ascii "\n"
 
 -- the whole output on an input
-abbrev pub Lists : List ℕ → List ℕ → Type 0
-Lists input output = Answered Listed (lines input) output
+abbrev pub Lists : Bool → List ℕ → List ℕ → Type 0
+Lists wish input output = Answered (Listed wish) (lines input) output

@@ -13,10 +13,51 @@ ghost use Rattle.parse.specs.Reading as parse;
 ghost use Rattle.lines.specs.Lines.{lineEnd};
 ghost use Rattle.lexicon.specs.Answers.{numeral, spaced, answerOf};
 ghost use Rattle.lines.specs.Written.{Adds};
+ghost use Rattle.lines.specs.Arguments.{argumentOf};
 
 // Says a line on standard error: a program has no exit status.
 pub fn say(line: &[u8]) {
     io::write_all(2, line);
+}
+
+// Whether a program's arguments are known, and whether they are the wish for infinite lengths.
+pub struct Argument {
+    pub known: bool,
+    pub infinite: bool,
+}
+
+fn argument_of(count: usize, word: &[u8]) -> Argument
+    ensures { λ r. ⌜ r ≡ argumentOf count (now (word .entry)) ⌝ }
+{
+    if count < 2 {
+        return Argument {
+            known: true,
+            infinite: false,
+        };
+    }
+    if 2 < count {
+        return Argument {
+            known: false,
+            infinite: false,
+        };
+    }
+    let infinite = length::is_word(word, 0, b"--infinite");
+    Argument {
+        known: infinite,
+        infinite: infinite,
+    }
+}
+
+// What the program was started with. Arguments that are not known are said to be so: a word mistyped must not be taken for none. (`os::arg` answers 0 for a word
+// that is longer than its buffer.)
+pub fn read_argument() -> Argument {
+    let mut word = [0u8; 10];
+    let n = os::arg(1, &mut word);
+    let a = argument_of(os::arg_count(), &word[..n]);
+    if !a.known {
+        say(b"no argument but --infinite is known, and nothing is answered\n");
+    }
+    a
 }
 
 // Reads standard input until the buffer is full or the input ends, and answers how many bytes it put at the start of the buffer. Where a read fails it says so

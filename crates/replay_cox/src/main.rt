@@ -216,10 +216,10 @@ fn answer(s: &[u8], out: &mut [u8], at: usize) -> usize
         return at;
     }
     match s[0] {
-        b'm' => put_square(out, at, geometry::matrix(&s[2..])),
-        b'n' => put_square(out, at, geometry::mirrors(&s[2..])),
-        b'g' => put_generated(out, at, geometry::generator(&s[2..])),
-        b'r' => put_reflected(out, at, geometry::reflections(&s[2..])),
+        b'm' => put_square(out, at, geometry::matrix(&s[2..], true)),
+        b'n' => put_square(out, at, geometry::mirrors(&s[2..], true)),
+        b'g' => put_generated(out, at, geometry::generator(&s[2..], true)),
+        b'r' => put_reflected(out, at, geometry::reflections(&s[2..], true)),
         b'M' => {
             let f = named(&s[2..]);
             put_square(out, at, geometry::family_matrix(f.letter, f.size))

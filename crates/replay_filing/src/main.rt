@@ -27,7 +27,7 @@ fn record_bytes(text: &[u8], rest: u8) -> [u8; ROOM]
     ensures { λ r. ⌜ 400 ≡ length r ⌝ }
 {
     let mut bytes = filled(rest);
-    lexicon::write_record(text, &mut bytes);
+    lexicon::write_record(text, true, &mut bytes);
     bytes
 }
 
@@ -187,7 +187,7 @@ fn filed(text: &[u8], out: &mut [u8], at: usize) -> usize
     ensures { λ r. ⌜ r ≤ at + 147 ⌝ }
 {
     let mut bytes = filled(UNWRITTEN);
-    let f = lexicon::write_record(text, &mut bytes);
+    let f = lexicon::write_record(text, true, &mut bytes);
     let a = f.answer;
     match a {
         Answer::Refused(_) => put_answer(out, at, a),
@@ -231,8 +231,8 @@ fn compared(one: &[u8], other: &[u8], out: &mut [u8], at: usize) -> usize
 {
     let mut left = filled(UNWRITTEN);
     let mut right = filled(UNWRITTEN);
-    let f = lexicon::write_record(one, &mut left);
-    let g = lexicon::write_record(other, &mut right);
+    let f = lexicon::write_record(one, true, &mut left);
+    let g = lexicon::write_record(other, true, &mut right);
     let a = &left[0..RECORD];
     let b = &right[0..RECORD];
     if equal(a, b) {
@@ -268,7 +268,7 @@ fn written(text: &[u8], digits: &[u8], out: &mut [u8], at: usize) -> usize
 {
     let mut bytes = filled(UNWRITTEN);
     let n = part(digits);
-    let f = lexicon::write_record(text, &mut bytes[0..n]);
+    let f = lexicon::write_record(text, true, &mut bytes[0..n]);
     let a = f.answer;
     let to = put_answer(out, at, a);
     put_digest(out, to, &bytes)

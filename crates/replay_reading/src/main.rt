@@ -1,4 +1,5 @@
-// Reads as `cdlist` does, and writes the whole reading of each text: the nodes by their bits, the edges in the order stored.
+// Reads as `cdlist` does, with the wish for infinite lengths as the Rust does, and writes the whole reading of each text: the nodes by their bits, the edges in
+// the order stored.
 use cd::Cd;
 use cd::Edge;
 use cd::Node;
@@ -128,7 +129,7 @@ fn line(text: &[u8], out: &mut [u8], at: usize) -> usize
     requires { ⌜ at + 4029 ≤ length (now out) ⌝ }
     ensures { λ r. ⌜ r ≤ at + 4029 ⌝ }
 {
-    let r = lexicon::read(text);
+    let r = lexicon::read(text, true);
     let mut to = lines::put_answer(out, at, r);
     // A refusal's diagram has neither nodes nor edges.
     let read = r.read;

@@ -88,12 +88,20 @@ pub unsafe extern "C" fn rust_parse(text: *const u8, len: usize) -> u32 {
 }
 
 /// Reads a text as include/lexicon.h's `lexicon_read` does: the same numbers in `out` and `answer`, the same one returned; but
-/// num and den are those typed, so that the time is the Rust's, which does not reduce.
+/// num and den are those typed, so that the time is the Rust's, which does not reduce; and the wish (ticket K6) is left aside,
+/// since the Rust always takes infinite lengths.
 ///
 /// # Safety
 /// As for `rust_parse`; `out` points at `room` numbers, 153 or more, `answer` at four, and the text has at most nine nodes.
 #[no_mangle]
-pub unsafe extern "C" fn rust_read(text: *const u8, len: usize, out: *mut u64, room: usize, answer: *mut usize) -> usize {
+pub unsafe extern "C" fn rust_read(
+    text: *const u8,
+    len: usize,
+    _wish: usize,
+    out: *mut u64,
+    room: usize,
+    answer: *mut usize,
+) -> usize {
     assert!(room >= DIAGRAM);
     let answer = std::slice::from_raw_parts_mut(answer, 4);
     let text = std::slice::from_raw_parts(text, len);

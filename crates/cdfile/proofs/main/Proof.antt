@@ -8,10 +8,10 @@ use Rattle.cdfile.proofs.main.Statement.{statement}
 use Rattle.cdfile.proofs.main.Tie as tie
 
 abbrev Inv-loop : tie.InvT-loop
-Inv-loop text read n out₀ from₀ out from = (16384 ≡ length out) × (n ≡ length (take n text))
+Inv-loop argument text read n out₀ from₀ out from = (16384 ≡ length out) × (n ≡ length (take n text))
 
 abbrev μ-loop : tie.MeasureT-loop
-μ-loop text read n out₀ from₀ out from = n - from
+μ-loop argument text read n out₀ from₀ out from = n - from
 
 loop-holds : tie.Need-loop-holds Inv-loop μ-loop
 loop-holds c = (search needs, sym (length-take-le _ _ (search needs)))
@@ -25,6 +25,8 @@ main-spec =
     (tie.spec
     Inv-loop
     μ-loop
+    (λ c κs. search needs)
+    (λ c. search needs)
     (λ c κs. search needs)
     (λ c. search needs)
     (λ c κs. search needs)

@@ -11,11 +11,11 @@ use Rattle.cdlist.proofs.block.Statement.{statement}
 use Rattle.cdlist.proofs.block.Tie as tie
 
 abbrev Inv-loop : tie.InvT-loop
-Inv-loop s from out₀ i₀ to₀ out i to =
-    IsBlock Listed s from out i to × (to ≤ length out) × (length out ≡ length out₀) × (from ≤ i) × (to ≤ longest * (i - from))
+Inv-loop s from wish out₀ i₀ to₀ out i to =
+    IsBlock (Listed wish) s from out i to × (to ≤ length out) × (length out ≡ length out₀) × (from ≤ i) × (to ≤ longest * (i - from))
 
 abbrev μ-loop : tie.MeasureT-loop
-μ-loop s from out₀ i₀ to₀ out i to = length s - i
+μ-loop s from wish out₀ i₀ to₀ out i to = length s - i
 
 loop-holds : tie.Need-loop-holds Inv-loop μ-loop
 loop-holds c = (block-none _ _ _, search needs, search needs, search needs, search needs)

@@ -8,10 +8,10 @@ use Rattle.cdlist.proofs.main.Statement.{statement}
 use Rattle.cdlist.proofs.main.Tie as tie
 
 abbrev Inv-loop : tie.InvT-loop
-Inv-loop text n out₀ from₀ out from = 16384 ≡ length out
+Inv-loop argument text n out₀ from₀ out from = 16384 ≡ length out
 
 abbrev μ-loop : tie.MeasureT-loop
-μ-loop text n out₀ from₀ out from = n - from
+μ-loop argument text n out₀ from₀ out from = n - from
 
 slice-aggregate-write-output : tie.Need-slice-aggregate-write-output Inv-loop μ-loop
 slice-aggregate-write-output c = sym (length-take-le _ _ (search needs))
@@ -22,6 +22,8 @@ main-spec =
     (tie.spec
     Inv-loop
     μ-loop
+    (λ c κs. search needs)
+    (λ c. search needs)
     (λ c κs. search needs)
     (λ c. search needs)
     (λ c κs. search needs)

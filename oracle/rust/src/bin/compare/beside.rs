@@ -1,4 +1,5 @@
-//! `compare texts`: on each text the Rust and the port side by side, all calls, all fields, all places of the buffers.
+//! `compare texts`: on each text the Rust and the port side by side, all calls, all fields, all places of the buffers; with
+//! the wish for infinite lengths (ticket K6) and without it.
 
 use std::process::ExitCode;
 
@@ -12,7 +13,7 @@ use crate::{
     dice::mix,
     expected::{self, Reading},
     figures::{Figure, RECORD},
-    port::{bits, short, Call, Port, Want, SPARE, SQUARE},
+    port::{bits, short, Asked, Asking, Call, Port, Want, SPARE, SQUARE, WISHES},
     records,
     run::{self, Tally, Work},
     texts::Texts,
@@ -29,6 +30,12 @@ const RECORDS: usize = 79;
 const FAMILIES: usize = 80;
 const LONG: usize = 81;
 const UNREDUCED: usize = 82;
+const UNWISHED: usize = 83;
+const UNWISHED_SEEN: usize = 84;
+const WITH_THE_WISH: usize = 88;
+const FAULT_BEFORE: usize = 100;
+
+const SEEN: [&str; 4] = ["reads it", "refuses otherwise", "panics", "takes no such bytes"];
 
 /// The refusals in which the port departs from the Rust, as docs/DIFFERENCES.md has them.
 const MEANINGS: [(usize, &str); 7] = [
@@ -47,7 +54,7 @@ fn labels() -> Vec<String> {
     for number in 0..(MIRRORS - DEPARTED) / 4 {
         let meaning = MEANINGS.iter().find(|row| row.0 == number).map_or("", |row| row.1);
         let row = |seen| format!("  with {number} for {meaning}, where the Rust {seen}");
-        labels.extend(["reads it", "refuses otherwise", "panics", "takes no such bytes"].map(row));
+        labels.extend(SEEN.map(row));
     }
     labels.push("with mirrors".into());
     labels.push("15, no mirrors".into());
@@ -56,6 +63,12 @@ fn labels() -> Vec<String> {
     labels.push("families".into());
     labels.push("of the accepted texts those of 200 bytes or more".into());
     labels.push("of the accepted texts those whose edges the Rust stores in other than lowest terms".into());
+    labels.push("without the wish refused with 23".into());
+    labels.extend(SEEN.map(|seen| format!("  with 23 for an infinite literal, where the Rust {seen}")));
+    labels.push("  with 23, and with the wish accepted".into());
+    let numbers = 1..FAULT_BEFORE - WITH_THE_WISH;
+    labels.extend(numbers.map(|number| format!("  with 23, and with the wish with {number}")));
+    labels.push("without the wish refused as with it, for a fault before an infinite literal".into());
     labels
 }
 
@@ -105,67 +118,100 @@ impl Work for Beside<'_> {
 impl Beside<'_> {
     fn text(&mut self, text: &[u8], tally: &mut Tally) -> Result<(), String> {
         let window = hash(text);
-        match expected::reading(text) {
+        let reading = expected::reading(text);
+        let wishes = [WISHES[turned(window, 7) % WISHES.len()], 0];
+        let Some(answer) = expected::without_wish(text) else {
+            // The same is due either way.
+            return self.reading(Asking { text, wishes: &wishes }, &reading, window, tally);
+        };
+        count_without_wish(&reading, answer, tally);
+        self.refused(Asking { text, wishes: &wishes[1..] }, answer, window)?;
+        self.reading(Asking { text, wishes: &wishes[..1] }, &reading, window, tally)
+    }
+
+    fn reading(&mut self, asking: Asking, reading: &Reading, window: usize, tally: &mut Tally) -> Result<(), String> {
+        match reading {
             Reading::Accepted(cd) => {
                 tally.count(ACCEPTED + cd.node_count());
-                if text.len() >= 200 {
+                if asking.text.len() >= 200 {
                     tally.count(LONG);
                 }
                 if cd.raw_edges().iter().any(|edge| !Fraction::of(edge.weight).is_lowest()) {
                     tally.count(UNREDUCED);
                 }
-                self.accepted(text, &cd, window, tally)
+                self.accepted(asking, cd, window, tally)
             }
-            Reading::Refused(answer, departed) => {
+            &Reading::Refused(answer, departed) => {
                 tally.count(REFUSED + answer[0]);
                 if let Some(seen) = departed {
                     tally.count(DEPARTED + 4 * answer[0] + seen as usize);
                 }
-                self.refused(text, answer, window)
+                self.refused(asking, answer, window)
             }
         }
     }
 
-    fn refused(&mut self, text: &[u8], answer: [usize; 4], window: usize) -> Result<(), String> {
-        let want = Want { answer, out: &[] };
-        self.port.check(Call::Read(text), want, turned(window, 0))?;
-        self.port.check(Call::Matrix(text), want, turned(window, 1))?;
-        self.port.check(Call::Mirrors(text), want, turned(window, 2))?;
-        self.port.check(Call::Generator(text), want, turned(window, 3))?;
-        self.port.check(Call::Reflections(text), want, turned(window, 4))?;
-        let len = short(RECORD, turned(window, 5)).unwrap_or(RECORD + window % SPARE);
-        records::refused(&mut self.port, text, len, answer, window)
+    /// Makes a call with each of the wishes.
+    fn check<'t>(
+        &mut self,
+        call: fn(Asked<'t>) -> Call<'t>,
+        asking: Asking<'t>,
+        want: Want,
+        window: usize,
+    ) -> Result<(), String> {
+        for asked in asking.each() {
+            let done = self.port.check(call(asked), want, window);
+            done.map_err(|what| format!("wish {}, {what}", asked.wish))?;
+        }
+        Ok(())
     }
 
-    fn accepted(&mut self, text: &[u8], cd: &Cd, window: usize, tally: &mut Tally) -> Result<(), String> {
+    fn refused(&mut self, asking: Asking, answer: [usize; 4], window: usize) -> Result<(), String> {
+        let want = Want { answer, out: &[] };
+        self.check(Call::Read, asking, want, turned(window, 0))?;
+        let asking = asking.mostly_first(window);
+        self.check(Call::Matrix, asking, want, turned(window, 1))?;
+        self.check(Call::Mirrors, asking, want, turned(window, 2))?;
+        self.check(Call::Generator, asking, want, turned(window, 3))?;
+        self.check(Call::Reflections, asking, want, turned(window, 4))?;
+        let len = short(RECORD, turned(window, 5)).unwrap_or(RECORD + window % SPARE);
+        self.no_record(asking, len, answer, window)
+    }
+
+    fn no_record(&mut self, asking: Asking, len: usize, answer: [usize; 4], window: usize) -> Result<(), String> {
+        asking.each().try_for_each(|asked| records::refused(&mut self.port, asked, len, answer, window))
+    }
+
+    fn accepted(&mut self, asking: Asking, cd: &Cd, window: usize, tally: &mut Tally) -> Result<(), String> {
         let nodes = cd.node_count();
         let diagram = Diagram::of(cd);
         let answer = [0, nodes, cd.edge_count(), cd.minimal().into()];
-        self.port.check(Call::Read(text), Want { answer, out: &diagram.0 }, turned(window, 0))?;
+        self.check(Call::Read, asking, Want { answer, out: &diagram.0 }, turned(window, 0))?;
+        let asking = asking.mostly_first(window);
 
         let cox = cd.cox();
         let answer = [0, nodes, 0, 0];
         let matrix = expected::matrix(&cox);
-        self.port.check(Call::Matrix(text), Want { answer, out: bits(&matrix) }, turned(window, 1))?;
+        self.check(Call::Matrix, asking, Want { answer, out: bits(&matrix) }, turned(window, 1))?;
         match expected::mirrors(&cox) {
             Ok(mirrors) => {
                 tally.count(MIRRORS);
                 let want = Want { answer, out: bits(&mirrors) };
-                self.port.check(Call::Mirrors(text), want, turned(window, 2))?;
-                self.fitting(text, cd, &cox, window, tally)?;
+                self.check(Call::Mirrors, asking, want, turned(window, 2))?;
+                self.fitting(asking, cd, &cox, window, tally)?;
             }
             Err(column) => {
                 tally.count(CROWDED);
-                self.crowded(text, column, window)?;
+                self.crowded(asking, column, window)?;
             }
         }
-        self.record(text, cd, window, tally)
+        self.record(asking, cd, window, tally)
     }
 
     /// The generator and the reflections of a diagram that has mirrors.
     fn fitting(
         &mut self,
-        text: &[u8],
+        asking: Asking,
         cd: &Cd,
         cox: &Cox<f64>,
         window: usize,
@@ -180,31 +226,31 @@ impl Beside<'_> {
                 Want { answer: [16, *node, 0, 0], out: &[] }
             }
         };
-        self.port.check(Call::Generator(text), want, turned(window, 3))?;
+        self.check(Call::Generator, asking, want, turned(window, 3))?;
         let reflections = expected::reflections(cox);
-        self.port.check(Call::Reflections(text), Want { answer, out: bits(&reflections) }, turned(window, 4))
+        self.check(Call::Reflections, asking, Want { answer, out: bits(&reflections) }, turned(window, 4))
     }
 
     /// The three calls that refuse a diagram without mirrors.
-    fn crowded(&mut self, text: &[u8], column: usize, window: usize) -> Result<(), String> {
+    fn crowded(&mut self, asking: Asking, column: usize, window: usize) -> Result<(), String> {
         let want = Want { answer: [15, column, 0, 0], out: &[] };
-        self.port.check(Call::Mirrors(text), want, turned(window, 2))?;
-        self.port.check(Call::Generator(text), want, turned(window, 3))?;
-        self.port.check(Call::Reflections(text), want, turned(window, 4))
+        self.check(Call::Mirrors, asking, want, turned(window, 2))?;
+        self.check(Call::Generator, asking, want, turned(window, 3))?;
+        self.check(Call::Reflections, asking, want, turned(window, 4))
     }
 
     /// Of a share of the texts also the record: many alike nodes take the model of this program long.
-    fn record(&mut self, text: &[u8], cd: &Cd, window: usize, tally: &mut Tally) -> Result<(), String> {
+    fn record(&mut self, asking: Asking, cd: &Cd, window: usize, tally: &mut Tally) -> Result<(), String> {
         const ONE_IN: [usize; LIMIT + 1] = [1, 1, 1, 1, 1, 1, 1, 2, 16, 128];
         let window = turned(window, 6);
         if window >> 20 & (ONE_IN[cd.node_count()] - 1) != 0 {
             return Ok(());
         }
         tally.count(RECORDS);
-        let (bytes, _) = records::written(&mut self.port, text, &Figure::of(cd), window)?;
+        let (bytes, _) = records::written(&mut self.port, asking, &Figure::of(cd), window)?;
         records::read_back(&mut self.port, &bytes, window)?;
         match short(RECORD, window) {
-            Some(len) => records::refused(&mut self.port, text, len, [12, 0, 0, 0], window),
+            Some(len) => self.no_record(asking, len, [12, 0, 0, 0], window),
             None => Ok(()),
         }
     }
@@ -249,6 +295,20 @@ impl Beside<'_> {
             }
         }
     }
+}
+
+/// Counts a text that holds an infinite literal, by what is due with the wish and without it.
+fn count_without_wish(reading: &Reading, answer: [usize; 4], tally: &mut Tally) {
+    if answer[0] == 23 {
+        tally.count(UNWISHED);
+        tally.count(UNWISHED_SEEN + reading.seen() as usize);
+        return tally.count(WITH_THE_WISH + reading.number());
+    }
+    assert!(
+        matches!(reading, Reading::Refused(with, _) if *with == answer),
+        "a fault before the literal is due either way"
+    );
+    tally.count(FAULT_BEFORE);
 }
 
 /// The window of a text's pattern.

@@ -1,5 +1,7 @@
 //! What the port must answer to a text: what the Rust answers, and where that has no answer or another one
-//! (docs/DIFFERENCES.md), what document 01 says.
+//! (docs/DIFFERENCES.md), what document 01 and ticket K6 say.
+
+use std::ops::Range;
 
 use miratope::{
     cox::{
@@ -31,12 +33,28 @@ pub enum Reading {
     Refused([usize; 4], Option<Seen>),
 }
 
-pub fn reading(bytes: &[u8]) -> Reading {
-    if bytes.len() > 255 {
-        return Reading::Refused([1, 255, 0, 0], Some(seen(bytes)));
+impl Reading {
+    /// The number of the refusal, 0 if there is none.
+    pub fn number(&self) -> usize {
+        match self {
+            Self::Accepted(_) => 0,
+            Self::Refused(answer, _) => answer[0],
+        }
     }
-    if let Some(at) = bytes.iter().position(|&byte| byte >= 128) {
-        return Reading::Refused([2, at, 0, 0], Some(seen(bytes)));
+
+    /// What the Rust made of the text.
+    pub fn seen(&self) -> Seen {
+        match self {
+            Self::Accepted(_) => Seen::Read,
+            Self::Refused(_, departed) => departed.unwrap_or(Seen::Refused),
+        }
+    }
+}
+
+/// What is due with the wish: the Rust always takes infinite lengths.
+pub fn reading(bytes: &[u8]) -> Reading {
+    if let Some(answer) = unreadable(bytes) {
+        return Reading::Refused(answer, Some(seen(bytes)));
     }
     let text = std::str::from_utf8(bytes).unwrap();
     let result = lines::parse(text);
@@ -47,6 +65,46 @@ pub fn reading(bytes: &[u8]) -> Reading {
         Some(Ok(cd)) => Reading::Accepted(cd),
         Some(Err(e)) => Reading::Refused(e.answer(), None),
         None => Reading::Refused(unanswered(text), Some(Seen::Panicked)),
+    }
+}
+
+/// Refusals 1 and 2, which come before all others.
+fn unreadable(bytes: &[u8]) -> Option<[usize; 4]> {
+    if bytes.len() > 255 {
+        return Some([1, 255, 0, 0]);
+    }
+    bytes.iter().position(|&byte| byte >= 128).map(|at| [2, at, 0, 0])
+}
+
+/// What is due without the wish; `None` if the text holds no infinite literal, and the same is due as with it. Ticket K6: "It
+/// refuses an infinite literal read without the wish (23, its last byte), where nan gives 6". So the text is read with `nan`
+/// for the first infinite word: what is refused before that is due, and its 6 there stands for 23.
+pub fn without_wish(bytes: &[u8]) -> Option<[usize; 4]> {
+    let word = infinite_word(bytes)?;
+    if let Some(answer) = unreadable(bytes) {
+        return Some(answer);
+    }
+    let nan = [&bytes[..word.start], b"nan", &bytes[word.end..]].concat();
+    match reading(&nan) {
+        Reading::Refused([6, at, 0, 0], None) if at == word.start + 2 => Some([23, word.end - 1, 0, 0]),
+        Reading::Refused(answer, _) => Some(answer),
+        Reading::Accepted(_) => panic!("a text that holds nan, and is read"),
+    }
+}
+
+/// Where the word of the first infinite literal stands: a literal runs from a `(` to the next `)`.
+fn infinite_word(bytes: &[u8]) -> Option<Range<usize>> {
+    let next = |from: usize, byte| bytes[from..].iter().position(|&other| other == byte).map(|at| from + at);
+    let mut from = 0;
+    loop {
+        let start = next(from, b'(')? + 1;
+        let end = next(start, b')')?;
+        let literal = &bytes[start..end];
+        let word = literal.strip_prefix(b"+").or(literal.strip_prefix(b"-")).unwrap_or(literal);
+        if word.eq_ignore_ascii_case(b"inf") || word.eq_ignore_ascii_case(b"infinity") {
+            return Some(end - word.len()..end);
+        }
+        from = end + 1;
     }
 }
 

@@ -52,6 +52,11 @@ impl Figure {
         &self.nodes[..self.count]
     }
 
+    /// Whether a length is infinite, so that only the wish lets the figure's texts be read.
+    pub fn is_infinite(&self) -> bool {
+        self.nodes().iter().any(|node| f64::from_bits(node.bits).is_infinite())
+    }
+
     pub fn set(&mut self, node: usize, place: Place) {
         self.nodes[node] = place;
     }

@@ -96,12 +96,19 @@ fn node(dice: &mut Dice, text: &mut Vec<u8>) {
     }
 }
 
+/// The words of infinite literals, nan, and words that are nearly one of them.
+#[rustfmt::skip]
+const WORDS: [&str; 16] = [
+    "inf", "inf", "inf", "inf", "infinity", "infinity", "infinity", "infinity", "nan", "nan", "in", "infi", "infinit",
+    "infinityy", "(inf", "inf ",
+];
+
 /// A literal of any form. At the limits: about 15 digits, 3 exponent digits, powers of ten about −22 or 22.
 fn literal(dice: &mut Dice, text: &mut Vec<u8>, at_limits: bool) {
     text.extend(dice.pick(&["", "", "", "+", "-"]).bytes());
     if dice.one_in(8) {
-        let shown = dice.pick(&["inf", "infinity", "inf", "infinity", "nan", "in", "infinit"]);
-        return word(dice, if at_limits { shown } else { "inf" }, text);
+        let shown = if at_limits { dice.pick(&WORDS) } else { dice.pick(&["inf", "infinity"]) };
+        return word(dice, shown, text);
     }
     let digits = if at_limits { dice.within(13, 17) } else { dice.within(1, 6) };
     let point = dice.one_in(2).then(|| dice.below(digits + 1));
@@ -139,7 +146,7 @@ fn exponent(dice: &mut Dice, text: &mut Vec<u8>, after: i64, at_limits: bool) {
 /// A text of few tokens, one of which is at a limit.
 pub fn at_limits(dice: &mut Dice, text: &mut Vec<u8>) {
     text.extend(dice.pick(&["", "x3", "o ", "x3o4", "*a", "\t"]).bytes());
-    match dice.below(8) {
+    match dice.below(9) {
         0 | 1 => {
             text.push(b'(');
             literal(dice, text, true);
@@ -159,6 +166,7 @@ pub fn at_limits(dice: &mut Dice, text: &mut Vec<u8>) {
             text.push(b'o');
             pieces(dice, text, &QUEUED, 8);
         }
+        7 => infinite(dice, text),
         _ => {
             let nodes = dice.within(7, 11);
             for _ in 0..nodes {
@@ -170,6 +178,19 @@ pub fn at_limits(dice: &mut Dice, text: &mut Vec<u8>) {
         }
     }
     text.extend(dice.pick(&["", "", "", "3o", "2*c", "3*b", " x", "_"]).bytes());
+}
+
+/// An infinite literal or nearly one, behind up to ten nodes and behind edges that are no fault before the text's end.
+fn infinite(dice: &mut Dice, text: &mut Vec<u8>) {
+    for _ in 0..dice.pick(&[0, 0, 1, 2, 7, 8, 9, 9, 10]) {
+        node(dice, text);
+        text.extend(dice.pick(&["", "", "3", " ", "2", "3*a", "3*z"]).bytes());
+    }
+    text.push(b'(');
+    text.extend(dice.pick(&["", "", "", "+", "-", "+", "-", "+ ", "--"]).bytes());
+    let shown = dice.pick(&WORDS);
+    word(dice, shown, text);
+    text.push(b')');
 }
 
 /// What may stand between parentheses.

@@ -2,13 +2,17 @@
 
 use crate::spelling::{push_number, push_reference};
 
-/// Document 01's "Texts to try", docs/DIFFERENCES.md's, and a few beside them.
+/// Document 01's "Texts to try", docs/DIFFERENCES.md's, and a few beside them; for ticket K6 infinite literals behind faults and
+/// before them, and more than one.
 #[rustfmt::skip]
-const NAMED: [&str; 47] = [
+const NAMED: [&str; 72] = [
     "", "*a", "x5/3/2o", "x4/2o", "x2*c", "x3*c", "x3/o", "x3", "x ", "(", "()", "(nan)", "x3_", "x4294967296o",
     "ooooooooo", "oooooooooo", "x4o", "o4x", "x6/2o", "(0)", "(-0)", "x4o3o", "x3*a", "x1o", "x3o3*a", "((", "(1",
     "x\t", "*a ", "*a3*a", "*-b3x", "x2*-c", "(1e23)", "(0e23)", "(1e0001)", "(1e999)", "(1e23)_", "\u{a0}x",
     "x\u{85}x", "(\u{e9})", "(1\u{e9})", "\u{e9}", "x3\u{e9}", "(\u{e9}1)", "x4o4o", "(inf)3o", "x4/6o",
+    "x1(inf)", "x3/(inf)", "x3*(inf)", "_(inf)", "()(inf)", "(nan)(inf)", "(inf)(nan)", "(1e99)(inf)", "(inf)(1e99)",
+    "x3*c(inf)", "x3o3*a(inf)", "x3o3*a3(inf)", "(inf)(", "(inf", "(inf)_", "(inf)3", "(inf)x1o", "(inf)3*c",
+    "(inf)3o3*a", "(inf) ", "(inf)3(-Infinity)", "(Infinity)(inf)", "(inf)\u{e9}", "(\u{e9}inf)", "(inf\u{e9})",
 ];
 
 pub fn all() -> Vec<Vec<u8>> {
@@ -18,6 +22,7 @@ pub fn all() -> Vec<Vec<u8>> {
     many_steps(&mut texts);
     literals(&mut texts);
     words(&mut texts);
+    infinities(&mut texts);
     nodes(&mut texts);
     references(&mut texts);
     lengths(&mut texts);
@@ -102,26 +107,46 @@ fn literals(texts: &mut Vec<Vec<u8>>) {
 
 /// Words and numbers that are none, or nearly.
 #[rustfmt::skip]
-const WORDS: [&str; 32] = [
-    "inf", "INF", "Infinity", "iNfInItY", "infinit", "infinityy", "in", "i", "nan", "NaN", "nanx", "na", ".", "..",
-    "1..2", "1.2.3", "e", "e5", ".e5", "1e", "1e+", "1e-", "1e5.", "1e5e5", "1 ", " 1", "--1", "+-1", "1-", "0x1",
-    "1_0", "1f",
+const WORDS: [&str; 37] = [
+    "inf", "INF", "Infinity", "iNfInItY", "infinit", "infinityy", "in", "i", "infi", "infinf", "inf ", "(inf",
+    "(infinity", "nan", "NaN", "nanx", "na", ".", "..", "1..2", "1.2.3", "e", "e5", ".e5", "1e", "1e+", "1e-", "1e5.",
+    "1e5e5", "1 ", " 1", "--1", "+-1", "1-", "0x1", "1_0", "1f",
 ];
 
 fn words(texts: &mut Vec<Vec<u8>>) {
     for word in WORDS {
-        for sign in ["", "+", "-", " "] {
+        for sign in ["", "+", "-", " ", "+ ", "--"] {
             texts.extend(["", "o3"].map(|start| format!("{start}({sign}{word})").into_bytes()));
             texts.push(format!("x3({sign}{word})3o").into_bytes());
         }
     }
 }
 
+/// Every mixture of case of the two words, with every sign: alone, behind nine nodes, and before a missing node.
+fn infinities(texts: &mut Vec<Vec<u8>>) {
+    for word in ["inf", "infinity"] {
+        for upper in 0..1 << word.len() {
+            let cased = |(i, byte): (usize, u8)| if upper >> i & 1 == 1 { byte.to_ascii_uppercase() } else { byte };
+            let word: Vec<u8> = word.bytes().enumerate().map(cased).collect();
+            for sign in ["", "+", "-"] {
+                let literal = [b"(", sign.as_bytes(), &word, b")"].concat();
+                texts.extend([literal.clone(), [b"ooooooooo", &literal[..]].concat(), [&literal[..], b"3*z"].concat()]);
+            }
+        }
+    }
+}
+
+#[rustfmt::skip]
+const ENDS: [&str; 18] = [
+    "", "x", "_", "(", " ", "3", "(1", "(nan)", "(1e23)", "x3*z", "*a3*-z", "x1x", "o3*a3*a", "(inf)", "(-Infinity)_",
+    "1(inf)", "*a3*a3(inf)", "(inf)(inf)",
+];
+
 /// Eight to eleven nodes, then what may be at fault later, or sooner.
 fn nodes(texts: &mut Vec<Vec<u8>>) {
     for count in 8..=11 {
-        for node in ["o", "x3", "(1)", "(1e23)", "s "] {
-            for end in ["", "x", "_", "(", " ", "3", "(1", "(nan)", "(1e23)", "x3*z", "*a3*-z", "x1x", "o3*a3*a"] {
+        for node in ["o", "x3", "(1)", "(1e23)", "s ", "(inf)"] {
+            for end in ENDS {
                 texts.push((node.repeat(count) + end).into_bytes());
                 texts.push(("o".repeat(count - 1) + node + end).into_bytes());
             }
@@ -145,13 +170,17 @@ fn references(texts: &mut Vec<Vec<u8>>) {
     }
 }
 
+#[rustfmt::skip]
+const FILLED: [(&str, &str); 9] = [
+    ("", " "), ("x", "\n"), ("x", "2*a"), ("x", "3"), ("x0", "0"), ("(", "0"), ("x3/", "3/"), ("(inf)", "2*a"),
+    ("(Infinity", " "),
+];
+
 /// 253 to 258 bytes of spaces, of twos, of digits, and of a literal, that end well or do not.
 fn lengths(texts: &mut Vec<Vec<u8>>) {
     for length in 253..=258_usize {
-        for end in ["x", "x3o", "(", "_", "x3", "x ", "\u{e9}", "x3*c"] {
-            for (start, filler) in
-                [("", " "), ("x", "\n"), ("x", "2*a"), ("x", "3"), ("x0", "0"), ("(", "0"), ("x3/", "3/")]
-            {
+        for end in ["x", "x3o", "(", "_", "x3", "x ", "\u{e9}", "x3*c", "(inf)", "(-Infinity)"] {
+            for (start, filler) in FILLED {
                 let mut text = start.as_bytes().to_vec();
                 while text.len() + filler.len() + end.len() <= length {
                     text.extend(filler.bytes());

@@ -1,6 +1,7 @@
-//! `compare pairs`: records at scale. Two spellings of a figure must get one record, and numberings that tell which node is
-//! which; a figure changed in one place another, unless it is the same renumbered; a record must be read back to its figure;
-//! a changed record must be refused, unless it is that of another figure.
+//! `compare pairs`: records at scale. Two spellings of a figure, one of them read with the wish for infinite lengths and the
+//! other without it where no length is infinite, must get one record, and numberings that tell which node is which; a figure
+//! changed in one place another, unless it is the same renumbered; a record must be read back to its figure; a changed record
+//! must be refused, unless it is that of another figure.
 
 use std::process::ExitCode;
 
@@ -10,7 +11,7 @@ use crate::{
     chance,
     dice::Dice,
     figures::{Figure, Numbering, PLAIN, RECORD},
-    port::{Call, Port, Want},
+    port::{Asking, Call, Port, Want, WISHES},
     records,
     run::{self, Tally, Work},
     spelling,
@@ -24,6 +25,8 @@ const DAMAGED_READ: usize = 12;
 const DAMAGED_REFUSED: usize = 13;
 const WRONG_LENGTH: usize = 14;
 const TOO_LONG: usize = 15;
+const WITH_AND_WITHOUT: usize = 16;
+const INFINITE: usize = 17;
 
 fn labels() -> Vec<String> {
     let mut labels: Vec<String> =
@@ -34,6 +37,8 @@ fn labels() -> Vec<String> {
     labels.push("records changed in a byte or in the numbering, refused with 14".into());
     labels.push("records of another length, refused with 13".into());
     labels.push("changed in one place, too long to write".into());
+    labels.push("figures in two spellings, one read with the wish and one without".into());
+    labels.push("figures with an infinite length in two spellings, both read with the wish".into());
     labels
 }
 
@@ -57,10 +62,13 @@ impl Work for Pairs {
             }
         };
         tally.count(SPELLED + figure.count);
-        let filed = self.filed(dice, &figure, plain)?;
+        let infinite = figure.is_infinite();
+        let wished = infinite || dice.one_in(2);
+        let filed = self.filed(dice, &figure, plain, wished)?;
         let bytes = filed.bytes;
         if let Some(odd) = spelling::short_spelling(dice, &figure, 5) {
-            filed.same_as(&self.filed(dice, &figure, odd)?)?;
+            tally.count(if infinite { INFINITE } else { WITH_AND_WITHOUT });
+            filed.same_as(&self.filed(dice, &figure, odd, infinite || !wished)?)?;
         }
         if figure.count <= 5 && dice.one_in(16) && filed.figure.smallest_of_all() != (bytes, filed.numbering) {
             return Err(format!(
@@ -131,11 +139,19 @@ impl Filed {
 }
 
 impl Pairs {
-    /// The record of a text for the figure, in the order given with it.
-    fn filed(&mut self, dice: &mut Dice, figure: &Figure, spelling: (Vec<u8>, Numbering)) -> Result<Filed, String> {
+    /// The record of a text for the figure, in the order given with it, read with the wish or without.
+    fn filed(
+        &mut self,
+        dice: &mut Dice,
+        figure: &Figure,
+        spelling: (Vec<u8>, Numbering),
+        wished: bool,
+    ) -> Result<Filed, String> {
         let (text, order) = spelling;
         let figure = figure.renumbered(&order);
-        let written = records::written(&mut self.port, &text, &figure, dice.next() as usize);
+        let wishes = [if wished { dice.pick(&WISHES) } else { 0 }];
+        let asking = Asking { text: &text, wishes: &wishes };
+        let written = records::written(&mut self.port, asking, &figure, dice.next() as usize);
         let (bytes, numbering) = written.map_err(|what| format!("\"{}\": {what}", text.escape_ascii()))?;
         Ok(Filed { figure, bytes, numbering })
     }
@@ -152,9 +168,10 @@ impl Pairs {
             tally.count(TOO_LONG);
             return Ok(());
         };
+        let wished = other.is_infinite() || dice.one_in(2);
         let same = figure.same(&other);
         tally.count(if same { SAME } else { APART });
-        if same != (self.filed(dice, &other, spelling)?.bytes == *bytes) {
+        if same != (self.filed(dice, &other, spelling, wished)?.bytes == *bytes) {
             let layouts = [figure, &other].map(|figure| records::shown(&figure.layout()));
             return Err(format!("a changed figure, the same: {same}; {} and {}", layouts[0], layouts[1]));
         }

@@ -14,22 +14,52 @@ pub const REFLECTIONS: usize = 729;
 
 #[link(name = "lexicon_c", kind = "static")]
 extern "C" {
-    fn lexicon_read(text: *const u8, text_len: usize, out: *mut u64, out_len: usize, answer: *mut usize) -> usize;
+    fn lexicon_read(
+        text: *const u8,
+        text_len: usize,
+        wish: usize,
+        out: *mut u64,
+        out_len: usize,
+        answer: *mut usize,
+    ) -> usize;
     fn lexicon_write_record(
         text: *const u8,
         text_len: usize,
+        wish: usize,
         out: *mut u8,
         out_len: usize,
         numbering: *mut usize,
         answer: *mut usize,
     ) -> usize;
     fn lexicon_read_record(bytes: *const u8, len: usize, out: *mut u64, out_len: usize, answer: *mut usize) -> usize;
-    fn lexicon_matrix(text: *const u8, text_len: usize, out: *mut f64, out_len: usize, answer: *mut usize) -> usize;
-    fn lexicon_mirrors(text: *const u8, text_len: usize, out: *mut f64, out_len: usize, answer: *mut usize) -> usize;
-    fn lexicon_generator(text: *const u8, text_len: usize, out: *mut f64, out_len: usize, answer: *mut usize) -> usize;
+    fn lexicon_matrix(
+        text: *const u8,
+        text_len: usize,
+        wish: usize,
+        out: *mut f64,
+        out_len: usize,
+        answer: *mut usize,
+    ) -> usize;
+    fn lexicon_mirrors(
+        text: *const u8,
+        text_len: usize,
+        wish: usize,
+        out: *mut f64,
+        out_len: usize,
+        answer: *mut usize,
+    ) -> usize;
+    fn lexicon_generator(
+        text: *const u8,
+        text_len: usize,
+        wish: usize,
+        out: *mut f64,
+        out_len: usize,
+        answer: *mut usize,
+    ) -> usize;
     fn lexicon_reflections(
         text: *const u8,
         text_len: usize,
+        wish: usize,
         out: *mut f64,
         out_len: usize,
         answer: *mut usize,
@@ -38,16 +68,45 @@ extern "C" {
     fn lexicon_family_mirrors(letter: u8, size: usize, out: *mut f64, out_len: usize, answer: *mut usize) -> usize;
 }
 
+/// A text, and the wish for infinite lengths (ticket K6) that it is read with: 0 is none, any other number is one.
+#[derive(Clone, Copy, PartialEq)]
+pub struct Asked<'a> {
+    pub text: &'a [u8],
+    pub wish: usize,
+}
+
+/// Numbers that are a wish.
+pub const WISHES: [usize; 8] = [1, 1, 2, 255, 256, 1 << 32, 1 << 63, usize::MAX];
+
+/// A text and the wishes with which each of its calls is made; the same is due with all of them.
+#[derive(Clone, Copy)]
+pub struct Asking<'a> {
+    pub text: &'a [u8],
+    pub wishes: &'a [usize],
+}
+
+impl<'a> Asking<'a> {
+    pub fn each(self) -> impl Iterator<Item = Asked<'a>> {
+        self.wishes.iter().map(move |&wish| Asked { text: self.text, wish })
+    }
+
+    /// For the calls that read a text only to go on from there: all wishes for one text in eight, else the first alone.
+    pub fn mostly_first(self, window: usize) -> Self {
+        let made = if window >> 32 & 7 == 0 { self.wishes.len() } else { 1 };
+        Self { wishes: &self.wishes[..made], ..self }
+    }
+}
+
 /// A call and what it is asked about. All of them write words or doubles but `Record`, which writes bytes and a numbering.
 #[derive(Clone, Copy, PartialEq)]
 pub enum Call<'a> {
-    Read(&'a [u8]),
-    Record(&'a [u8]),
+    Read(Asked<'a>),
+    Record(Asked<'a>),
     ReadRecord(&'a [u8]),
-    Matrix(&'a [u8]),
-    Mirrors(&'a [u8]),
-    Generator(&'a [u8]),
-    Reflections(&'a [u8]),
+    Matrix(Asked<'a>),
+    Mirrors(Asked<'a>),
+    Generator(Asked<'a>),
+    Reflections(Asked<'a>),
     FamilyMatrix(u8, usize),
     FamilyMirrors(u8, usize),
 }
@@ -154,25 +213,33 @@ impl Port {
         // Every pointer has as many elements behind it as the length beside it says; a double is any 64 bits.
         self.returned = unsafe {
             match call {
-                Call::Record(text) => return self.write_record(text, len, window),
-                Call::Read(text) => lexicon_read(input(text), text.len(), words, len, answer),
+                Call::Record(asked) => return self.write_record(asked, len, window),
+                Call::Read(Asked { text, wish }) => lexicon_read(input(text), text.len(), wish, words, len, answer),
                 Call::ReadRecord(bytes) => lexicon_read_record(input(bytes), bytes.len(), words, len, answer),
-                Call::Matrix(text) => lexicon_matrix(input(text), text.len(), doubles, len, answer),
-                Call::Mirrors(text) => lexicon_mirrors(input(text), text.len(), doubles, len, answer),
-                Call::Generator(text) => lexicon_generator(input(text), text.len(), doubles, len, answer),
-                Call::Reflections(text) => lexicon_reflections(input(text), text.len(), doubles, len, answer),
+                Call::Matrix(Asked { text, wish }) => {
+                    lexicon_matrix(input(text), text.len(), wish, doubles, len, answer)
+                }
+                Call::Mirrors(Asked { text, wish }) => {
+                    lexicon_mirrors(input(text), text.len(), wish, doubles, len, answer)
+                }
+                Call::Generator(Asked { text, wish }) => {
+                    lexicon_generator(input(text), text.len(), wish, doubles, len, answer)
+                }
+                Call::Reflections(Asked { text, wish }) => {
+                    lexicon_reflections(input(text), text.len(), wish, doubles, len, answer)
+                }
                 Call::FamilyMatrix(letter, size) => lexicon_family_matrix(letter, size, doubles, len, answer),
                 Call::FamilyMirrors(letter, size) => lexicon_family_mirrors(letter, size, doubles, len, answer),
             }
         };
     }
 
-    fn write_record(&mut self, text: &[u8], len: usize, window: usize) {
+    fn write_record(&mut self, Asked { text, wish }: Asked, len: usize, window: usize) {
         self.bytes.fill(window, len);
         self.numbering.fill(window, LIMIT);
         let (bytes, numbering, answer) = (self.bytes.pointer(), self.numbering.pointer(), self.answer.pointer());
         // As in `call`.
-        self.returned = unsafe { lexicon_write_record(input(text), text.len(), bytes, len, numbering, answer) };
+        self.returned = unsafe { lexicon_write_record(input(text), text.len(), wish, bytes, len, numbering, answer) };
     }
 
     /// Makes a call, any but `Record`, with a buffer that is long enough, and one call in eight also with one that is too

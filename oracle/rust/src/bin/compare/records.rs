@@ -2,35 +2,40 @@
 
 use crate::{
     figures::{Figure, Numbering, RECORD},
-    port::{Call, Port, Want, SPARE},
+    port::{Asked, Asking, Call, Port, Want, SPARE},
 };
 
 /// A record, and the numbering that was handed out with it.
 pub type Written = ([u8; RECORD], Numbering);
 
 /// The record of an accepted text, whose figure is given in the order of the text's nodes: it must be the smallest layout,
-/// and its numbering the first that gives it.
-pub fn written(port: &mut Port, text: &[u8], figure: &Figure, window: usize) -> Result<Written, String> {
-    port.call(Call::Record(text), RECORD + window % SPARE, window);
-    if let Some(what) = port.record_departs([0, figure.count, 0, 0]) {
-        return Err(format!("lexicon_write_record: {what}"));
-    }
-    let (bytes, numbering) = port.record();
+/// and its numbering the first that gives it, with each of the wishes.
+pub fn written(port: &mut Port, asking: Asking, figure: &Figure, window: usize) -> Result<Written, String> {
     let first = figure.first_smallest();
     let smallest = figure.renumbered(&first).layout();
-    if smallest != bytes {
-        return Err(format!("lexicon_write_record: {}, {} is due", shown(&bytes), shown(&smallest)));
+    for asked in asking.each() {
+        port.call(Call::Record(asked), RECORD + window % SPARE, window);
+        let fault = port.record_departs([0, figure.count, 0, 0]).or_else(|| departs(port.record(), (smallest, first)));
+        if let Some(what) = fault {
+            return Err(format!("lexicon_write_record, wish {}: {what}", asked.wish));
+        }
     }
-    if numbering != first {
-        return Err(format!("lexicon_write_record: the numbering {numbering:?}, {first:?} is due"));
+    Ok((smallest, first))
+}
+
+/// How a record and its numbering depart from those that are due; `None` if they don't.
+fn departs((bytes, numbering): Written, (smallest, first): Written) -> Option<String> {
+    if bytes != smallest {
+        return Some(format!("{}, {} is due", shown(&bytes), shown(&smallest)));
     }
-    Ok((bytes, numbering))
+    (numbering != first).then(|| format!("the numbering {numbering:?}, {first:?} is due"))
 }
 
 /// A text whose record is refused, or is to be written into too short a buffer: both buffers must be kept.
-pub fn refused(port: &mut Port, text: &[u8], len: usize, answer: [usize; 4], window: usize) -> Result<(), String> {
-    port.call(Call::Record(text), len, window);
-    port.record_departs(answer).map_or(Ok(()), |what| Err(format!("lexicon_write_record, {len} bytes lent: {what}")))
+pub fn refused(port: &mut Port, asked: Asked, len: usize, answer: [usize; 4], window: usize) -> Result<(), String> {
+    port.call(Call::Record(asked), len, window);
+    let fault = port.record_departs(answer);
+    fault.map_or(Ok(()), |what| Err(format!("lexicon_write_record, wish {}, {len} bytes lent: {what}", asked.wish)))
 }
 
 /// Bytes read back: the figure that they tell, in their own numbering; or 14 if no diagram has them. Answers which.

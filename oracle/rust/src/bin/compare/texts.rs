@@ -83,10 +83,11 @@ fn two(index: u64, text: &mut Vec<u8>) {
 
 /// Bytes that a reader tells apart, and pieces that are long to come by byte for byte.
 #[rustfmt::skip]
-const PIECES: [&str; 48] = [
+const PIECES: [&str; 50] = [
     "x", "o", "s", "3", "2", "1", "4", "/", "*", "-", "a", "b", "(", ")", ".", " ", "\t", "_", "z", "e", "+", "~",
     "0", "x3o", "*a", "*-a", "*b", "(1)", "(1.5)", "(1e", "(-", "inf", "nan", "e-2", "5/2", "4294967295",
-    "4294967296", "00000000", "ooo", "x3", "3*a", "2*c", "3*-b", "(-0)", "\n", "\x0b", "\u{e9}", "\u{a0}",
+    "4294967296", "00000000", "ooo", "x3", "3*a", "2*c", "3*-b", "(-0)", "(inf)", "(-Infinity)", "\n", "\x0b",
+    "\u{e9}", "\u{a0}",
 ];
 
 /// About two of five are damaged.
