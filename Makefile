@@ -65,6 +65,7 @@ beside: libs oracle
 # The models in Python, the Rust and the stored answers.
 models: oracle
 	@python3 oracle/answers.py
+	@python3 oracle/wishes.py
 	@python3 oracle/cox.py
 	@python3 oracle/filing.py
 	@python3 oracle/counts.py

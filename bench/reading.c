@@ -18,7 +18,6 @@ uint32_t rust_parse(const uint8_t *text, size_t len); // the count of nodes, or 
 
 struct texts {
     const char *name;
-    size_t wish; // of the long texts, since some have infinite lengths, which the Rust takes
     size_t count;
     const char *at[LONG];
     size_t len[LONG];
@@ -45,7 +44,7 @@ static void run(const void *input, uint64_t turns)
     size_t answer[LEXICON_ANSWER], sum = 0;
     for (uint64_t n = 0; n < turns; n++)
         for (size_t i = 0; i < t->count; i++)
-            sum += w->read((const uint8_t *)t->at[i], t->len[i], t->wish, out, LEXICON_DIAGRAM, answer);
+            sum += w->read((const uint8_t *)t->at[i], t->len[i], 0, out, LEXICON_DIAGRAM, answer);
     kept = sum;
 }
 
@@ -67,15 +66,15 @@ static void reduce_edges(uint64_t *diagram)
 }
 
 // Every number, and those that a refusal must leave as they were.
-static void check(const char *at, size_t len, size_t wish)
+static void check(const char *at, size_t len)
 {
     const uint8_t *text = (const uint8_t *)at;
     uint64_t ours[LEXICON_DIAGRAM], rusts[LEXICON_DIAGRAM];
     size_t answer[LEXICON_ANSWER], rust_answer[LEXICON_ANSWER];
     memset(ours, 0xff, sizeof ours);
     memset(rusts, 0xff, sizeof rusts);
-    size_t number = lexicon_read(text, len, wish, ours, LEXICON_DIAGRAM, answer);
-    size_t rust_number = rust_read(text, len, wish, rusts, LEXICON_DIAGRAM, rust_answer);
+    size_t number = lexicon_read(text, len, 0, ours, LEXICON_DIAGRAM, answer);
+    size_t rust_number = rust_read(text, len, 0, rusts, LEXICON_DIAGRAM, rust_answer);
     if (rust_number == 0)
         reduce_edges(rusts);
     if (number != rust_number || memcmp(answer, rust_answer, sizeof answer) || memcmp(ours, rusts, sizeof ours) ||
@@ -90,7 +89,7 @@ static void rows(const struct texts *t)
         const char *name;
     } others[] = {{rust_read, "the Rust, laid out"}, {parse_alone, "the Rust, `Cd::parse` alone"}};
     for (size_t i = 0; i < t->count; i++)
-        check(t->at[i], t->len[i], t->wish);
+        check(t->at[i], t->len[i]);
     for (size_t k = 0; k < sizeof others / sizeof *others; k++) {
         struct work ours = {lexicon_read, t}, other = {others[k].read, t};
         put_row(&(struct row){"reading", t->name, {run, &ours}, {run, &other}, others[k].name, (double)t->count});
@@ -132,10 +131,10 @@ void reading_rows(const char *path)
     };
     static struct texts t;
     for (size_t i = 0; i < sizeof texts / sizeof *texts; i++) {
-        t = (struct texts){.name = texts[i][0], .count = 1, .at = {texts[i][1]}, .len = {strlen(texts[i][1])}};
+        t = (struct texts){texts[i][0], 1, {texts[i][1]}, {strlen(texts[i][1])}};
         rows(&t);
     }
-    t = (struct texts){.name = "1,000 texts of 100 to 255 bytes", .wish = 1};
+    t = (struct texts){.name = "1,000 texts of 100 to 255 bytes"};
     read_file(path, &t);
     rows(&t);
 }

@@ -41,7 +41,7 @@ def long_texts():
     dice, texts = chance.Dice(2), []
     while len(texts) < 1000:
         text = chance.accepted(dice, 100, 255)
-        if len(text) >= 100 and model.answer(text, wish=True).startswith("ok"):
+        if len(text) >= 100 and model.answer(text, wish=False).startswith("ok"):
             texts.append(text)
     return texts
 

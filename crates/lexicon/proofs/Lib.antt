@@ -4,6 +4,7 @@ pub mod Sound
 pub mod Fileable
 pub mod OneAnswer
 pub mod Demand3
+pub mod Wishes
 pub mod Marks
 mod FewNodes
 pub mod TextsRight

@@ -27,7 +27,7 @@ not-both h k = let z : _≡_ {A = ℕ} 0 1 = (cc) in omega arith
 one-refusal : {x : Reading} {e f : CdError} → x ≡ Refused e → x ≡ Refused f → e ≡ f
 one-refusal {e = e} {f = f} h k = let d = sym h ∙ k in let q : e ≡ f = cc in q
 
-one-diagram : {x : Reading} {ns ms : List Node} {es fs : List Stored} → x ≡ Accepted ns es → x ≡ Accepted ms fs → (ns ≡ ms) × (es ≡ fs)
+pub one-diagram : {x : Reading} {ns ms : List Node} {es fs : List Stored} → x ≡ Accepted ns es → x ≡ Accepted ms fs → (ns ≡ ms) × (es ≡ fs)
 one-diagram {ns = ns} {ms = ms} {es = es} {fs = fs} h k = let e = sym h ∙ k in ((let q : ns ≡ ms = cc in q), (let q : es ≡ fs = cc in q))
 
 -- ---- what a call answers to a text that is refused, or accepted

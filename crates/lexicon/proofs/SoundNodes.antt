@@ -1,12 +1,12 @@
 -- A node that was read holds a double and no nan, without the wish no infinity. A letter's is one of the table's, and antt computes the test of each. A
 -- literal's value is an infinity, or is rounded once, since its digits are a double exactly, and is finite. Assumes nothing.
-use Prim.Native.Nat.{ℕ, zero, suc, _+_, _-_, _*_, _^_, _≤_, _<_}
+use Prim.Native.Nat.{ℕ, suc, _+_, _-_, _*_, _^_, _≤_, _<_}
 use Prim.Native.Char.{code}
-use mathlib.Core.Bool.{Bool, true, false, not, _||_, cond, true≢false, and-true}
+use mathlib.Core.Bool.{Bool, true, false, not, _||_, true≢false}
 use mathlib.Core.List.{List, [], _∷_, _++_}
-use mathlib.Core.Path.{_≡_, refl, ap, _∙_}
+use mathlib.Core.Path.{_≡_, refl}
 use native.Mathlib.Omega.{arith}
-use borrow.Author.Tests.{ltb-false, leb-true}
+use borrow.Author.Tests.{ltb-false}
 use lib.Dec.{T, ltb, eqb}
 use lib.IntN.{ℤ, pos, negsuc}
 use lib.Ieee.{Float, nan, inf, fin, binary64, neg, fits, isNan, ofBits, add, sub, mul, div}
@@ -45,18 +45,19 @@ use Rattle.lexicon.specs.All.{All, nil, cons}
 pub record IsLength (wish : Bool) (v : Float) : Type 0 where
   pub double : T (fits binary64 v)
   pub number : isNan v ≡ false
-  pub unwished : wish ≡ false → T (finite v)
+  pub unwished : wish ≡ false → finite v ≡ true
 
 pub data Sound (wish : Bool) : Node → Type 0 where
   unringed : Sound wish Unringed
   ringed : {v : Float} → IsLength wish v → Sound wish (Ringed v)
   snub : {v : Float} → IsLength wish v → Sound wish (Snub v)
 
+-- whatever is wished
 finite-length : {wish : Bool} (v : Float) → T (fits binary64 v) → T (finite v) → IsLength wish v
 unfolding isNan
 finite-length nan f h = absurd h
 finite-length (inf s) f h = absurd h
-finite-length (fin s m e) f h = record { double = f; number = refl; unwished = λ u. tt }
+finite-length (fin s m e) f h = record { double = f; number = refl; unwished = λ u. refl }
 
 -- what is chosen has the property, if both are known to have it, or the first where the test holds
 pub picked : {A : Type 0} (P : A → Type 0) {x y : A} (t : Bool) → P x → P y → P (pick t x y)
@@ -69,14 +70,17 @@ tested P false f g = g
 
 -- ---- a letter
 
+ring : {wish : Bool} {v : Float} → T (fits binary64 v) → T (finite v) → Sound wish (Ringed v)
+ring {v = v} f h = ringed (finite-length v f h)
+
 -- the table's nodes, o and s the first
 letters-sound : {wish : Bool} → All (λ (e : Entry). Sound wish (e .node)) letters
-unfolding letters whole R2 R3 R5 rootOf ofBits add sub mul div fits isNan
+unfolding letters whole R2 R3 R5 rootOf ofBits add sub mul div fits
 letters-sound =
     cons unringed (cons (snub (finite-length _ tt tt)) (
-    cons (ringed (finite-length _ tt tt)) (cons (ringed (finite-length _ tt tt)) (cons (ringed (finite-length _ tt tt)) (cons (ringed (finite-length _ tt tt)) (cons (ringed (finite-length _ tt tt)) (cons (ringed (finite-length _ tt tt)) (
-    cons (ringed (finite-length _ tt tt)) (cons (ringed (finite-length _ tt tt)) (cons (ringed (finite-length _ tt tt)) (cons (ringed (finite-length _ tt tt)) (cons (ringed (finite-length _ tt tt)) (cons (ringed (finite-length _ tt tt)) (
-    cons (ringed (finite-length _ tt tt)) (cons (ringed (finite-length _ tt tt)) (cons (ringed (finite-length _ tt tt)) (cons (ringed (finite-length _ tt tt)) (cons (ringed (finite-length _ tt tt)) nil))))))))))))))))))
+    cons (ring tt tt) (cons (ring tt tt) (cons (ring tt tt) (cons (ring tt tt) (cons (ring tt tt) (cons (ring tt tt) (
+    cons (ring tt tt) (cons (ring tt tt) (cons (ring tt tt) (cons (ring tt tt) (cons (ring tt tt) (cons (ring tt tt) (
+    cons (ring tt tt) (cons (ring tt tt) (cons (ring tt tt) (cons (ring tt tt) (cons (ring tt tt) nil))))))))))))))))))
 
 -- if a letter stands for a node, that is sound
 data SoundLetter (wish : Bool) : Letter → Type 0 where
@@ -107,17 +111,17 @@ signed-length true (fin s m e) f h = finite-length (fin (not s) m e) (neg-fits b
 signed-length false v f h = finite-length v f h
 
 -- if a literal has a value, that is a length; an infinity is one with the wish
-data SoundLength (wish : Bool) : Length → Type 0 where
+pub data SoundLength (wish : Bool) : Length → Type 0 where
   value : {v : Float} → IsLength wish v → SoundLength wish (Value v)
-  infinite : {v : Float} → IsLength true v → SoundLength wish (Infinite v)
+  infinite : {v : Float} → IsLength true v → finite v ≡ false → SoundLength wish (Infinite v)
   no-number : SoundLength wish NoNumber
   not-a-number : SoundLength wish Nan
   range : SoundLength wish Range
 
-infinite-length : (minus : Bool) → IsLength true (signed minus (inf false))
+signed-infinite : {wish : Bool} (minus : Bool) → SoundLength wish (Infinite (signed minus (inf false)))
 unfolding signed neg isNan
-infinite-length true = record { double = inf-fits binary64 true; number = refl; unwished = λ u. absurd (true≢false u) }
-infinite-length false = record { double = inf-fits binary64 false; number = refl; unwished = λ u. absurd (true≢false u) }
+signed-infinite true = infinite (record { double = inf-fits binary64 true; number = refl; unwished = λ u. absurd (true≢false u) }) refl
+signed-infinite false = infinite (record { double = inf-fits binary64 false; number = refl; unwished = λ u. absurd (true≢false u) }) refl
 
 -- if a node was read, it is sound
 pub data SoundRead (wish : Bool) : NodeRead → Type 0 where
@@ -149,10 +153,10 @@ module _ (wish : Bool) where
       let a = digits t in
       let b = fraction (a .rest) in
       let ds = a .front ++ b .front in
-      picked (SoundLength wish) (isWord t (ascii "inf") || isWord t (ascii "infinity")) (infinite (infinite-length minus))
+      picked (SoundLength wish) (isWord t (ascii "inf") || isWord t (ascii "infinity")) (signed-infinite minus)
       (picked (SoundLength wish) (isWord t (ascii "nan")) not-a-number (judged-sound minus (length ds) (number 0 ds) (length (b .front)) (exponent (b .rest)) (fifteen-digits t)))
 
-  literal-sound : (t : List ℕ) → SoundLength wish (literalOf t)
+  pub literal-sound : (t : List ℕ) → SoundLength wish (literalOf t)
   unfolding literalOf
   literal-sound t = unsigned-sound (sign t .minus) (sign t .rest)
 
@@ -165,7 +169,7 @@ module _ (wish : Bool) where
   length-node-sound : {l : Length} (last next : ℕ) → SoundLength wish l → SoundRead wish (lengthNode wish l last next)
   unfolding lengthNode
   length-node-sound last next (value h) = added (ringed h)
-  length-node-sound last next (infinite h) = infinite-sound wish last next h
+  length-node-sound last next (infinite h i) = infinite-sound wish last next h
   length-node-sound last next no-number = refused
   length-node-sound last next not-a-number = refused
   length-node-sound last next range = refused

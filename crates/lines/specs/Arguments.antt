@@ -1,6 +1,6 @@
 -- Document 02, K6: "Reading should turn infinite lengths down by default." A program reads with the wish for them if its one argument is `--infinite`.
 use Prim.Native.Nat.{ℕ}
-use mathlib.Core.Bool.{Bool, true, false}
+use mathlib.Core.Bool.{true, false}
 use mathlib.Core.List.{List}
 use lib.Dec.{ltb}
 use Rattle.float.specs.Pick.{pick}

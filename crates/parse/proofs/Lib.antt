@@ -1,6 +1,5 @@
--- The laws of reading: the loop over the text, the queue, the edges kept, and the two wishes.
+-- The laws of reading: the loop over the text, the queue, and the edges kept.
 mod JoinLaws
 pub mod KeptEdges
 mod Turns
 pub mod Outcomes
-pub mod Wishes

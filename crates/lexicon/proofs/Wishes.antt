@@ -1,0 +1,253 @@
+-- Document 02, K6: "Reading should turn infinite lengths down by default." Without the wish a text is read as with it, or is refused with 23; and it is accepted
+-- exactly if it is accepted with the wish and none of its lengths is infinite, as the same diagram. Only a literal's node asks for the wish. By induction on
+-- the turns: what is refused with 23 has, read with the wish, an infinite length, which stays among the nodes. Assumes nothing.
+use Prim.Native.Nat.{ℕ, zero, suc, _+_, _-_}
+use mathlib.Core.Bool.{Bool, true, false, _&&_, true≢false}
+use mathlib.Core.List.{List, [], _∷_, _++_}
+use mathlib.Core.Logic.{_↔_}
+use mathlib.Core.Path.{_≡_, refl, sym, ap, _∙_}
+use lib.Dec.{ltb, leb}
+use lib.Ieee.Scale.{finite}
+use lib.ListN.{length, take, drop}
+use Rattle.float.specs.Pick.{pick}
+use Rattle.cd.specs.Diagrams.{Stored, limit}
+use Rattle.cd.specs.declared.CdError.{CdError}
+use Rattle.cd.specs.declared.CdError.the-variants.{InfiniteLength}
+use Rattle.cd.specs.declared.Node.{Node}
+use Rattle.cd.specs.declared.Node.the-variants.{Unringed, Ringed, Snub}
+use Rattle.scan.specs.Bytes.{is}
+use Rattle.scan.specs.Edges.{edgeAt}
+use Rattle.scan.specs.Spaces.{skip}
+use Rattle.scan.specs.declared.EdgeRead.{EdgeRead}
+use Rattle.scan.specs.declared.EdgeRead.the-variants as edge
+use Rattle.length.specs.declared.Length.{Length}
+use Rattle.node.specs.Nodes.{closing, lastByte, lengthNode, lengthAt, nodeAt}
+use Rattle.node.specs.declared.NodeRead.{NodeRead}
+use Rattle.node.specs.declared.NodeRead.the-variants as node
+use Rattle.parse.specs.Text.{Seen, start, Outcome, On, onto, Joint, Without, With, taken, nodeIn, afterEdge, turn, turns, textFrom}
+use Rattle.parse.specs.Text as text
+use Rattle.parse.specs.Joining.{Joined, joinAll}
+use Rattle.parse.specs.Joining as joining
+use Rattle.parse.specs.Reading.{Reading, Accepted, withEdges, joined, high, kept, read}
+use Rattle.parse.specs.Reading as reading
+use Rattle.parse.proofs.KeptEdges.{as-typed}
+use Rattle.lexicon.specs.All.{All, nil, cons}
+use Rattle.lexicon.proofs.OneAnswer.{not-both, one-diagram}
+use Rattle.lexicon.proofs.SoundNodes.{SoundLength, value, infinite, no-number, not-a-number, range, literal-sound, Sound, unringed, ringed, snub, picked}
+use Rattle.lexicon.proofs.Sound.{sound-nodes}
+
+-- ---- finite lengths
+
+-- an unringed node has no length
+abbrev pub isFinite : Node → Bool
+isFinite Unringed = true
+isFinite (Ringed v) = finite v
+isFinite (Snub v) = finite v
+
+abbrev pub allFinite : List Node → Bool
+allFinite [] = true
+allFinite (n ∷ ns) = isFinite n && allFinite ns
+
+and-false : (t : Bool) {b c : Bool} → (b ≡ false → c ≡ false) → (t && b) ≡ false → (t && c) ≡ false
+and-false true f h = f h
+and-false false f h = refl
+
+-- an infinite length stays among the nodes as one more is read, and may be that one's
+stays : (ns : List Node) (n : Node) → allFinite ns ≡ false → allFinite (ns ++ (n ∷ [])) ≡ false
+stays [] n h = absurd (true≢false h)
+stays (m ∷ ns) n h = and-false (isFinite m) (stays ns n) h
+
+comes : (ns : List Node) (n : Node) → isFinite n ≡ false → allFinite (ns ++ (n ∷ [])) ≡ false
+comes [] n h = rw h
+comes (m ∷ ns) n h = and-false (isFinite m) {b = false} (λ e. comes ns n h) (and-false-right (isFinite m))
+  where
+    and-false-right : (t : Bool) → (t && false) ≡ false
+    and-false-right true = refl
+    and-false-right false = refl
+
+-- ---- what has an infinite length, unless it is refused
+
+data InfiniteNode : NodeRead → Type 0 where
+  added : {n : Node} {next : ℕ} → isFinite n ≡ false → InfiniteNode (node.Added n next)
+
+data InfiniteSeen : Outcome → Type 0 where
+  on : {at : ℕ} {st : Seen} → allFinite (st .nodes) ≡ false → InfiniteSeen (On at st)
+  refused : {r : CdError} → InfiniteSeen (text.Refused r)
+
+pub data InfiniteReading : Reading → Type 0 where
+  accepted : {ns : List Node} {es : List Stored} → allFinite ns ≡ false → InfiniteReading (Accepted ns es)
+  refused : {r : CdError} → InfiniteReading (reading.Refused r)
+
+-- what is read without the wish, x, and with it, y, are the same; or x is refused with 23, and y is infinite
+pub data Alike {A : Type 0} (refuse : CdError → A) (IsInfinite : A → Type 0) (x y : A) : Type 0 where
+  same : x ≡ y → Alike refuse IsInfinite x y
+  turned-down : (pos : ℕ) → x ≡ refuse (InfiniteLength pos) → IsInfinite y → Alike refuse IsInfinite x y
+
+alike-picked : {A : Type 0} {r : CdError → A} {I : A → Type 0} {x y x′ y′ : A} (t : Bool) → Alike r I x x′ → Alike r I y y′ → Alike r I (pick t x y) (pick t x′ y′)
+alike-picked true f g = f
+alike-picked false f g = g
+
+-- ---- a node
+
+abbrev AlikeNodes : NodeRead → NodeRead → Type 0
+AlikeNodes = Alike node.Refused InfiniteNode
+
+length-node-alike : {l : Length} (last next : ℕ) → SoundLength true l → AlikeNodes (lengthNode false l last next) (lengthNode true l last next)
+unfolding lengthNode
+length-node-alike last next (value h) = same refl
+length-node-alike last next (infinite h i) = turned-down last refl (added i)
+length-node-alike last next no-number = same refl
+length-node-alike last next not-a-number = same refl
+length-node-alike last next range = same refl
+
+length-alike : (bs : List ℕ) (at : ℕ) → AlikeNodes (lengthAt false bs at) (lengthAt true bs at)
+unfolding lengthAt
+length-alike bs at =
+    let e = closing bs at in
+    alike-picked (ltb e (at + length bs)) (length-node-alike (lastByte at e) (e + 1) (literal-sound true (take (e - at) bs))) (same refl)
+
+node-alike : (bs : List ℕ) (at : ℕ) → AlikeNodes (nodeAt false bs at) (nodeAt true bs at)
+unfolding nodeAt
+node-alike [] at = same refl
+node-alike (b ∷ bs) at = alike-picked (is "(" b) (length-alike bs (at + 1)) (same refl)
+
+-- ---- the text
+
+abbrev AlikeTexts : Outcome → Outcome → Type 0
+AlikeTexts = Alike text.Refused InfiniteSeen
+
+taken-infinite : {x : NodeRead} (i : ℕ) (j : Joint) (st : Seen) → InfiniteNode x → InfiniteSeen (taken x i j st)
+unfolding taken
+taken-infinite i j st (added {n} h) = picked InfiniteSeen (leb limit (length (st .nodes))) refused (on (comes (st .nodes) n h))
+
+taken-stays : (x : NodeRead) (i : ℕ) (j : Joint) (st : Seen) → allFinite (st .nodes) ≡ false → InfiniteSeen (taken x i j st)
+unfolding taken
+taken-stays (node.Refused r) i j st h = refused
+taken-stays (node.Referred this next) i j st h = on h
+taken-stays (node.Added n next) i j st h = picked InfiniteSeen (leb limit (length (st .nodes))) refused (on (stays (st .nodes) n h))
+
+taken-alike : {x y : NodeRead} (i : ℕ) (j : Joint) (st : Seen) → AlikeNodes x y → AlikeTexts (taken x i j st) (taken y i j st)
+unfolding taken
+taken-alike i j st (same e) = same (ap (λ z. taken z i j st) e)
+taken-alike i j st (turned-down p e f) = turned-down p (ap (λ z. taken z i j st) e) (taken-infinite i j st f)
+
+onto-infinite : {o : Outcome} {k : ℕ → Seen → Outcome} → InfiniteSeen o → ((at : ℕ) (st : Seen) → allFinite (st .nodes) ≡ false → InfiniteSeen (k at st)) → InfiniteSeen (onto o k)
+onto-infinite (on {at} {st} h) f = f at st h
+onto-infinite refused f = refused
+
+onto-alike : (o : Outcome) {o′ : Outcome} {k k′ : ℕ → Seen → Outcome} → AlikeTexts o o′ → ((at : ℕ) (st : Seen) → AlikeTexts (k at st) (k′ at st))
+    → ((at : ℕ) (st : Seen) → allFinite (st .nodes) ≡ false → InfiniteSeen (k′ at st)) → AlikeTexts (onto o k) (onto o′ k′)
+onto-alike (On at st) (same e) f g = rw (← e) (f at st)
+onto-alike (text.Refused r) (same e) f g = rw (← e) (same refl)
+onto-alike o {k = k} (turned-down p e i) f g = turned-down p (ap (λ z. onto z k) e) (onto-infinite i g)
+
+module _ (s : List ℕ) where
+  node-in-alike : (at : ℕ) (j : Joint) (st : Seen) → AlikeTexts (nodeIn false s at j st) (nodeIn true s at j st)
+  unfolding nodeIn
+  node-in-alike at j st = let i = skip (drop at s) at in taken-alike i j st (node-alike (drop i s) i)
+
+  node-in-stays : (at : ℕ) (j : Joint) (st : Seen) → allFinite (st .nodes) ≡ false → InfiniteSeen (nodeIn true s at j st)
+  unfolding nodeIn
+  node-in-stays at j st h = let i = skip (drop at s) at in taken-stays (nodeAt true (drop i s) i) i j st h
+
+  after-alike : (x : EdgeRead) (at : ℕ) (st : Seen) → AlikeTexts (afterEdge false x s at st) (afterEdge true x s at st)
+  unfolding afterEdge
+  after-alike edge.NoEdge at st = node-in-alike at Without st
+  after-alike (edge.Read e next) at st = node-in-alike next (With e) st
+  after-alike (edge.Refused r) at st = same refl
+
+  after-stays : (x : EdgeRead) (at : ℕ) (st : Seen) → allFinite (st .nodes) ≡ false → InfiniteSeen (afterEdge true x s at st)
+  unfolding afterEdge
+  after-stays edge.NoEdge at st h = node-in-stays at Without st h
+  after-stays (edge.Read e next) at st h = node-in-stays next (With e) st h
+  after-stays (edge.Refused r) at st h = refused
+
+  turns-stay : (n at : ℕ) (st : Seen) → allFinite (st .nodes) ≡ false → InfiniteSeen (turns true n s at st)
+  unfolding turns turn
+  turns-stay zero at st h = on h
+  turns-stay (suc n) at st h =
+      picked InfiniteSeen (ltb at (length s)) (onto-infinite (after-stays (edgeAt s at) at st h) (λ at′ st′ h′. turns-stay n at′ st′ h′)) (on h)
+
+  turns-alike : (n at : ℕ) (st : Seen) → AlikeTexts (turns false n s at st) (turns true n s at st)
+  unfolding turns turn
+  turns-alike zero at st = same refl
+  turns-alike (suc n) at st =
+      alike-picked (ltb at (length s))
+      (onto-alike (afterEdge false (edgeAt s at) s at st) (after-alike (edgeAt s at) at st) (λ at′ st′. turns-alike n at′ st′) (turns-stay n))
+      (same refl)
+
+  text-alike : (at : ℕ) → AlikeTexts (textFrom false s at) (textFrom true s at)
+  unfolding textFrom
+  text-alike at = onto-alike (nodeIn false s at Without start) (node-in-alike at Without start) (λ at′ st′. turns-alike (length s) at′ st′) (turns-stay (length s))
+
+-- ---- the reading
+
+abbrev pub AlikeReadings : Reading → Reading → Type 0
+AlikeReadings = Alike reading.Refused InfiniteReading
+
+with-edges-infinite : (ns : List Node) (j : Joined) → allFinite ns ≡ false → InfiniteReading (withEdges ns j)
+unfolding withEdges
+with-edges-infinite ns (joining.Edges es) h = accepted h
+with-edges-infinite ns (joining.Refused r) h = refused
+
+joined-infinite : {o : Outcome} → InfiniteSeen o → InfiniteReading (joined o)
+unfolding joined
+joined-infinite (on {st} h) = with-edges-infinite (st .nodes) (joinAll (length (st .nodes)) (st .queue) 0 []) h
+joined-infinite refused = refused
+
+joined-alike : {o o′ : Outcome} → AlikeTexts o o′ → AlikeReadings (joined o) (joined o′)
+unfolding joined
+joined-alike (same e) = same (ap joined e)
+joined-alike (turned-down p e i) = turned-down p (ap joined e) (joined-infinite i)
+
+kept-infinite : {x : Reading} → InfiniteReading x → InfiniteReading (kept x)
+unfolding kept
+kept-infinite (accepted h) = accepted h
+kept-infinite refused = refused
+
+kept-alike : {x y : Reading} → AlikeReadings x y → AlikeReadings (kept x) (kept y)
+unfolding kept
+kept-alike (same e) = same (ap kept e)
+kept-alike (turned-down p e i) = turned-down p (ap kept e) (kept-infinite i)
+
+-- WITHOUT THE WISH A TEXT IS READ AS WITH IT; OR IT IS REFUSED WITH 23, AND WITH THE WISH IT IS REFUSED OR HAS AN INFINITE LENGTH
+pub read-alike : (s : List ℕ) → AlikeReadings (read false s) (read true s)
+unfolding read
+read-alike s = kept-alike (alike-picked (ltb 255 (length s)) (same refl) (alike-picked (ltb (high s 0) (length s)) (same refl) (joined-alike (text-alike s 0))))
+
+-- ---- accepted texts
+
+sound-finite : {n : Node} → Sound false n → isFinite n ≡ true
+sound-finite unringed = refl
+sound-finite (ringed f) = f .unwished refl
+sound-finite (snub f) = f .unwished refl
+
+finite-nodes : {ns : List Node} → All (Sound false) ns → allFinite ns ≡ true
+finite-nodes nil = refl
+finite-nodes (cons h hs) = rw (sound-finite h) (finite-nodes hs)
+
+module _ (s : List ℕ) (ns : List Node) (es : List Stored) where
+  with-the-wish : read false s ≡ Accepted ns es → read true s ≡ Accepted ns es
+  with-the-wish h = of (read-alike s)
+    where
+      of : AlikeReadings (read false s) (read true s) → read true s ≡ Accepted ns es
+      of (same e) = sym e ∙ h
+      of (turned-down p e i) = absurd (not-both e h)
+
+  unwished-finite : read false s ≡ Accepted ns es → allFinite ns ≡ true
+  unwished-finite h = let t = as-typed false s ns es h in finite-nodes (sound-nodes false s ns (t .edges) (t .read))
+
+  without-the-wish : read true s ≡ Accepted ns es → allFinite ns ≡ true → read false s ≡ Accepted ns es
+  without-the-wish h f = of (read-alike s)
+    where
+      apart : (x : Reading) → x ≡ Accepted ns es → InfiniteReading x → ⊥
+      apart x q (accepted k) = true≢false (sym f ∙ ap allFinite (sym (one-diagram refl q .0)) ∙ k)
+      apart x q refused = not-both refl q
+
+      of : AlikeReadings (read false s) (read true s) → read false s ≡ Accepted ns es
+      of (same e) = e ∙ h
+      of (turned-down p e i) = absurd (apart (read true s) h i)
+
+  -- WITHOUT THE WISH A TEXT IS ACCEPTED EXACTLY IF IT IS ACCEPTED WITH THE WISH, AS THE SAME DIAGRAM, AND NO LENGTH IS INFINITE
+  pub accepted-unwished : (read false s ≡ Accepted ns es) ↔ ((read true s ≡ Accepted ns es) × (allFinite ns ≡ true))
+  accepted-unwished = (λ h. (with-the-wish h, unwished-finite h), λ h. without-the-wish (h .0) (h .1))
