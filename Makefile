@@ -1,6 +1,7 @@
 # make test: `rt ci`, then the library's callers, the programs, the comparisons and the claims on what it has proved.
 # make lib: the library for C and Rust. make callers: the programs in C and the Rust crate over it.
-# make programs: cdlist and cdfile where reading or writing fails. make run: cdfile on standard input, or on a sample where that is a terminal. make list: cdlist likewise.
+# make programs: cdlist and cdfile where reading or writing fails, and with arguments. make run: cdfile on standard input, or on a sample where that is a terminal;
+# ARGUMENT=--infinite for the wish for infinite lengths. make list: cdlist likewise.
 # make compare: the comparisons alone, with more pairs; SEED=7 TEXTS=100000000 PAIRS=0 for a seed and counts of one's own.
 # make claims: docs/CLAIMS.md against the crates. make bench: the table of docs/BENCHMARKS.md.
 # Everything is built into target/.
@@ -52,7 +53,7 @@ run: PROGRAM = cdfile
 list: PROGRAM = cdlist
 run list: | target
 	@$(call prove,rt check $(PROGRAM))
-	@if [ -t 0 ]; then target/bin/$(PROGRAM) <crates/$(PROGRAM)/stdin; else target/bin/$(PROGRAM); fi
+	@if [ -t 0 ]; then target/bin/$(PROGRAM) $(ARGUMENT) <crates/$(PROGRAM)/stdin; else target/bin/$(PROGRAM) $(ARGUMENT); fi
 
 compare: beside models
 

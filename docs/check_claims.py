@@ -22,7 +22,7 @@ Edits. The line that a must-fail edit replaces stands once in its file.
 Quotations. What stands between `"` in a comment of specs/ are words of one paragraph of document 01, or of document 02 if the comment or the file's
 first comment names that document or a ticket. `..` stands for words left out. Emphasis and line breaks do not count.
 
-Lines to believe are those of the definitions and types leaned on, without comments, blank lines, `use` and `unfolding`.
+Lines to believe are those of the definitions and types leaned on, without comments, blank lines, `use`, `unfolding` and `module`.
 
 Exit status: 0 no fault, 1 faults.
 """
@@ -34,7 +34,8 @@ from functools import lru_cache
 from pathlib import Path
 
 PUBLIC = ("lexicon", "geometry", "lexicon_c", "lexicon/proofs/Demand3.antt: demand-3", "lexicon/proofs/Demand3.antt: nodes-correspond",
-          "lexicon/proofs/OneAnswer.antt: one-answer", "lexicon/proofs/OneAnswer.antt: one-filing", "lexicon_c/proofs/Demand3.antt: demand-3",
+          "lexicon/proofs/OneAnswer.antt: one-answer", "lexicon/proofs/OneAnswer.antt: one-filing", "lexicon/proofs/Wishes.antt: read-alike",
+          "lexicon/proofs/Wishes.antt: accepted-unwished", "lexicon_c/proofs/Demand3.antt: demand-3",
           "lexicon_c/proofs/Demand3.antt: nodes-correspond", "lexicon_c/proofs/Demand3.antt: one-answer", "lexicon_c/proofs/Demand3.antt: one-filing")
 PROGRAMS = ("cdlist", "cdfile", "cdlist/proofs/Whole.antt: blocks-list", "cdfile/proofs/Filings.antt: blocks-show")
 
@@ -86,10 +87,15 @@ def parts(name):
 @lru_cache(None)
 def definitions(path):
     """Of each definition of a spec file its lines."""
-    found, name = {}, ""
+    found, name, indent = {}, "", ""
     for number, line in enumerate(text_of(path).splitlines(), 1):
         code = COMMENT.sub("", line)
+        indent = indent if code.startswith(indent) or not code.strip() else ""
+        code = code[len(indent):]
         if not code.strip() or re.match(r"(use|infix[lr]?|unfolding) ", code):
+            continue
+        if re.match(r"module _ .* where$", code):
+            indent = "  "
             continue
         start = DEFINITION.match(code)
         if start:

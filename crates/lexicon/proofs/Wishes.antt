@@ -4,17 +4,15 @@
 use Prim.Native.Nat.{ℕ, zero, suc, _+_, _-_}
 use mathlib.Core.Bool.{Bool, true, false, _&&_, true≢false}
 use mathlib.Core.List.{List, [], _∷_, _++_}
-use mathlib.Core.Logic.{_↔_}
+use mathlib.Core.Logic.{_↔_, _⊎_, inl, inr}
 use mathlib.Core.Path.{_≡_, refl, sym, ap, _∙_}
 use lib.Dec.{ltb, leb}
-use lib.Ieee.Scale.{finite}
 use lib.ListN.{length, take, drop}
 use Rattle.float.specs.Pick.{pick}
 use Rattle.cd.specs.Diagrams.{Stored, limit}
 use Rattle.cd.specs.declared.CdError.{CdError}
 use Rattle.cd.specs.declared.CdError.the-variants.{InfiniteLength}
 use Rattle.cd.specs.declared.Node.{Node}
-use Rattle.cd.specs.declared.Node.the-variants.{Unringed, Ringed, Snub}
 use Rattle.scan.specs.Bytes.{is}
 use Rattle.scan.specs.Edges.{edgeAt}
 use Rattle.scan.specs.Spaces.{skip}
@@ -32,21 +30,12 @@ use Rattle.parse.specs.Reading.{Reading, Accepted, withEdges, joined, high, kep
 use Rattle.parse.specs.Reading as reading
 use Rattle.parse.proofs.KeptEdges.{as-typed}
 use Rattle.lexicon.specs.All.{All, nil, cons}
+use Rattle.lexicon.specs.Lengths.{isFinite, allFinite}
 use Rattle.lexicon.proofs.OneAnswer.{not-both, one-diagram}
 use Rattle.lexicon.proofs.SoundNodes.{SoundLength, value, infinite, no-number, not-a-number, range, literal-sound, Sound, unringed, ringed, snub, picked}
 use Rattle.lexicon.proofs.Sound.{sound-nodes}
 
 -- ---- finite lengths
-
--- an unringed node has no length
-abbrev pub isFinite : Node → Bool
-isFinite Unringed = true
-isFinite (Ringed v) = finite v
-isFinite (Snub v) = finite v
-
-abbrev pub allFinite : List Node → Bool
-allFinite [] = true
-allFinite (n ∷ ns) = isFinite n && allFinite ns
 
 and-false : (t : Bool) {b c : Bool} → (b ≡ false → c ≡ false) → (t && b) ≡ false → (t && c) ≡ false
 and-false true f h = f h
@@ -74,12 +63,12 @@ data InfiniteSeen : Outcome → Type 0 where
   on : {at : ℕ} {st : Seen} → allFinite (st .nodes) ≡ false → InfiniteSeen (On at st)
   refused : {r : CdError} → InfiniteSeen (text.Refused r)
 
-pub data InfiniteReading : Reading → Type 0 where
+data InfiniteReading : Reading → Type 0 where
   accepted : {ns : List Node} {es : List Stored} → allFinite ns ≡ false → InfiniteReading (Accepted ns es)
   refused : {r : CdError} → InfiniteReading (reading.Refused r)
 
 -- what is read without the wish, x, and with it, y, are the same; or x is refused with 23, and y is infinite
-pub data Alike {A : Type 0} (refuse : CdError → A) (IsInfinite : A → Type 0) (x y : A) : Type 0 where
+data Alike {A : Type 0} (refuse : CdError → A) (IsInfinite : A → Type 0) (x y : A) : Type 0 where
   same : x ≡ y → Alike refuse IsInfinite x y
   turned-down : (pos : ℕ) → x ≡ refuse (InfiniteLength pos) → IsInfinite y → Alike refuse IsInfinite x y
 
@@ -182,7 +171,7 @@ module _ (s : List ℕ) where
 
 -- ---- the reading
 
-abbrev pub AlikeReadings : Reading → Reading → Type 0
+abbrev AlikeReadings : Reading → Reading → Type 0
 AlikeReadings = Alike reading.Refused InfiniteReading
 
 with-edges-infinite : (ns : List Node) (j : Joined) → allFinite ns ≡ false → InfiniteReading (withEdges ns j)
@@ -210,10 +199,17 @@ unfolding kept
 kept-alike (same e) = same (ap kept e)
 kept-alike (turned-down p e i) = turned-down p (ap kept e) (kept-infinite i)
 
--- WITHOUT THE WISH A TEXT IS READ AS WITH IT; OR IT IS REFUSED WITH 23, AND WITH THE WISH IT IS REFUSED OR HAS AN INFINITE LENGTH
-pub read-alike : (s : List ℕ) → AlikeReadings (read false s) (read true s)
+readings-alike : (s : List ℕ) → AlikeReadings (read false s) (read true s)
 unfolding read
-read-alike s = kept-alike (alike-picked (ltb 255 (length s)) (same refl) (alike-picked (ltb (high s 0) (length s)) (same refl) (joined-alike (text-alike s 0))))
+readings-alike s = kept-alike (alike-picked (ltb 255 (length s)) (same refl) (alike-picked (ltb (high s 0) (length s)) (same refl) (joined-alike (text-alike s 0))))
+
+-- WITHOUT THE WISH A TEXT IS READ AS WITH IT, OR REFUSED WITH 23
+pub read-alike : (s : List ℕ) → (read false s ≡ read true s) ⊎ ((pos : ℕ) × (read false s ≡ reading.Refused (InfiniteLength pos)))
+read-alike s = of (readings-alike s)
+  where
+    of : AlikeReadings (read false s) (read true s) → (read false s ≡ read true s) ⊎ ((pos : ℕ) × (read false s ≡ reading.Refused (InfiniteLength pos)))
+    of (same e) = inl e
+    of (turned-down p e i) = inr (p, e)
 
 -- ---- accepted texts
 
@@ -228,7 +224,7 @@ finite-nodes (cons h hs) = rw (sound-finite h) (finite-nodes hs)
 
 module _ (s : List ℕ) (ns : List Node) (es : List Stored) where
   with-the-wish : read false s ≡ Accepted ns es → read true s ≡ Accepted ns es
-  with-the-wish h = of (read-alike s)
+  with-the-wish h = of (readings-alike s)
     where
       of : AlikeReadings (read false s) (read true s) → read true s ≡ Accepted ns es
       of (same e) = sym e ∙ h
@@ -238,7 +234,7 @@ module _ (s : List ℕ) (ns : List Node) (es : List Stored) where
   unwished-finite h = let t = as-typed false s ns es h in finite-nodes (sound-nodes false s ns (t .edges) (t .read))
 
   without-the-wish : read true s ≡ Accepted ns es → allFinite ns ≡ true → read false s ≡ Accepted ns es
-  without-the-wish h f = of (read-alike s)
+  without-the-wish h f = of (readings-alike s)
     where
       apart : (x : Reading) → x ≡ Accepted ns es → InfiniteReading x → ⊥
       apart x q (accepted k) = true≢false (sym f ∙ ap allFinite (sym (one-diagram refl q .0)) ∙ k)

@@ -1,4 +1,4 @@
--- Document 01, "Reading" and "What each operation refuses", Text: what a text is read as. Document 02, K2: the edges kept.
+-- Document 01, "Reading" and "What each operation refuses", Text: what a text is read as. Document 02, K2: the edges kept; K6: the wish.
 use Prim.Native.Nat.{ℕ, _+_}
 use mathlib.Core.Bool.{Bool}
 use mathlib.Core.List.{List, [], _∷_, map}
@@ -44,7 +44,7 @@ typedFrom wish s at =
     let r = joined (textFrom wish s at) in
     pick (ltb 255 (length s)) (Refused (TooLong 255)) (pick (ltb (high s 0) (length s)) (Refused (NotAscii (high s 0))) r)
 
--- document 01's reading: the edges as typed
+-- the edges as typed; with the wish it is document 01's reading
 unfoldable pub typed : Bool → List ℕ → Reading
 unfolding typedFrom
 typed wish s = typedFrom wish s 0

@@ -58,7 +58,7 @@ taken (node.Added n next) i x st =
     let this = Absolute (length (st .nodes)) in
     pick (leb limit (length (st .nodes))) (Refused (TooManyNodes i)) (On next (record { nodes = st .nodes ++ (n ∷ []); queue = queued x st this; prev = this }))
 
--- Document 02, K6: a text is read with the wish for infinite lengths or without it
+-- Document 02, K6: "Reading should turn infinite lengths down by default." All that follows is over the wish for them; a literal's node asks for it.
 module _ (wish : Bool) where
   -- "Node: skip spaces."
   unfoldable pub nodeIn : List ℕ → ℕ → Joint → Seen → Outcome
