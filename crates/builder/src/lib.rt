@@ -1,8 +1,7 @@
-// The text tested, then read; and the reader that holds the text and a cursor. That is thin: each function takes it apart and hands slice and cursor to
-// `parse_from`. It reads without the wish for infinite lengths; `read` is over the wish.
+// The text tested, then read; and the reader that holds the text, a cursor and the wish for infinite lengths. That is thin: each function takes it apart and hands
+// the three to `parse_from`.
 use cd::CdError;
 use parse::Read;
-ghost use mathlib.Core.Bool.{false};
 ghost use mathlib.Core.Path.{_≡_};
 ghost use Rattle.parse.specs.Reading.{high, readFrom, read, answer};
 
@@ -22,7 +21,7 @@ pub fn not_ascii(s: &[u8]) -> usize
 }
 
 // The diagram of the text from `at` on, or what refuses it.
-pub fn read_from(s: &[u8], at: usize, wish: bool) -> Read
+pub fn parse_from(s: &[u8], at: usize, wish: bool) -> Read
     ensures { λ r. ⌜ r ≡ answer (readFrom wish (now (s .entry)) at) ⌝ }
 {
     if 255 < s.len() {
@@ -38,44 +37,28 @@ pub fn read_from(s: &[u8], at: usize, wish: bool) -> Read
     parse::read_text(s, at, wish)
 }
 
-// The same without the wish.
-pub fn parse_from(s: &[u8], at: usize) -> Read
-    ensures { λ r. ⌜ r ≡ answer (readFrom false (now (s .entry)) at) ⌝ }
-{
-    read_from(s, at, false)
-}
-
 pub struct CdBuilder<'a> {
     pub diagram: &'a [u8],
     pub at: usize,
+    pub wish: bool,
 }
 
-pub fn new<'a>(diagram: &'a [u8]) -> CdBuilder<'a>
-    ensures { λ r. ⌜ (r .diagram ≡ diagram .entry) × (r .at ≡ 0) ⌝ }
+pub fn new<'a>(diagram: &'a [u8], wish: bool) -> CdBuilder<'a>
+    ensures { λ r. ⌜ (r .diagram ≡ diagram .entry) × (r .at ≡ 0) × (r .wish ≡ wish) ⌝ }
 {
-    CdBuilder { diagram, at: 0 }
+    CdBuilder { diagram, at: 0, wish }
 }
 
 // The diagram of what is left, or what refuses it.
 pub fn build<'a>(b: CdBuilder<'a>) -> Read
-    ensures { λ r. ⌜ r ≡ answer (readFrom false (now (b .entry .diagram)) (b .entry .at)) ⌝ }
+    ensures { λ r. ⌜ r ≡ answer (readFrom (b .entry .wish) (now (b .entry .diagram)) (b .entry .at)) ⌝ }
 {
-    parse_from(b.diagram, b.at)
+    parse_from(b.diagram, b.at, b.wish)
 }
 
-// The diagram of a text, or what refuses it: `Cd::parse`, without the wish.
-pub fn parse(text: &[u8]) -> Read
-    ensures { λ r. ⌜ r ≡ answer (read false (now (text .entry))) ⌝ }
-{
-    build(new(text))
-}
-
-// The same with the wish or without it.
-pub fn read(text: &[u8], wish: bool) -> Read
+// The diagram of a text, or what refuses it: `Cd::parse`.
+pub fn parse(text: &[u8], wish: bool) -> Read
     ensures { λ r. ⌜ r ≡ answer (read wish (now (text .entry))) ⌝ }
 {
-    if wish {
-        return read_from(text, 0, true);
-    }
-    parse(text)
+    build(new(text, wish))
 }

@@ -68,7 +68,7 @@ fn mirrored(matrix: [f64; SQUARE], n: usize) -> Square
 pub fn matrix(text: &[u8], wish: bool) -> Square
     ensures { λ r. ⌜ r ≡ matrixOf (read wish (now (text .entry))) ⌝ }
 {
-    let r = builder::read(text, wish);
+    let r = builder::parse(text, wish);
     let a = r.answer;
     match a {
         Answer::Accepted => {
@@ -88,7 +88,7 @@ pub fn matrix(text: &[u8], wish: bool) -> Square
 pub fn mirrors(text: &[u8], wish: bool) -> Square
     ensures { λ r. ⌜ r ≡ mirrorsOf (read wish (now (text .entry))) ⌝ }
 {
-    let r = builder::read(text, wish);
+    let r = builder::parse(text, wish);
     let a = r.answer;
     match a {
         Answer::Accepted => {
@@ -157,7 +157,7 @@ fn solved(cd: Cd, columns: [f64; SQUARE]) -> Generated
 pub fn generator(text: &[u8], wish: bool) -> Generated
     ensures { λ r. ⌜ r ≡ generatorOfText (read wish (now (text .entry))) ⌝ }
 {
-    let r = builder::read(text, wish);
+    let r = builder::parse(text, wish);
     let a = r.answer;
     match a {
         Answer::Accepted => {
@@ -191,7 +191,7 @@ fn refused_reflections(e: CdError) -> Reflected
 pub fn reflections(text: &[u8], wish: bool) -> Reflected
     ensures { λ r. ⌜ r ≡ reflectionsOfText (read wish (now (text .entry))) ⌝ }
 {
-    let r = builder::read(text, wish);
+    let r = builder::parse(text, wish);
     let a = r.answer;
     match a {
         Answer::Accepted => {

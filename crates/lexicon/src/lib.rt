@@ -18,7 +18,7 @@ pub struct Reading {
 pub fn read(text: &[u8], wish: bool) -> Reading
     ensures { λ r. ⌜ Reads wish (now (text .entry)) r ⌝ }
 {
-    let r = builder::read(text, wish);
+    let r = builder::parse(text, wish);
     let a = r.answer;
     match a {
         Answer::Accepted => {
@@ -57,7 +57,7 @@ fn refusal(e: CdError) -> Filed
 pub fn write_record(text: &[u8], wish: bool, out: &mut [u8]) -> Filed
     ensures { λ r. ⌜ Files wish (now (text .entry)) (now (out .entry)) (now (out .exit)) r ⌝ }
 {
-    let r = builder::read(text, wish);
+    let r = builder::parse(text, wish);
     let a = r.answer;
     match a {
         Answer::Accepted => {

@@ -5,7 +5,7 @@ ghost use lib.ListN.{length};
 
 // The count of the search. It is at least 1: a text that is refused has 0.
 fn count(text: &[u8]) -> u64 {
-    let r = builder::read(text, true);
+    let r = builder::parse(text, true);
     let a = r.answer;
     match a {
         Answer::Accepted => {

@@ -15,8 +15,8 @@ use Rattle.geometry.proofs.generator.Statement.{statement}
 use Rattle.geometry.proofs.generator.Tie as tie
 
 -- the text is accepted, and its matrix is held
-accepted : (c : tie.After-enum-told) → Accepts (read (c .before .before .before .before .args .wish) (c .before .before .before .before .args .text .now)) (c .before .before .read .result)
-accepted c = accepts _ _ (c .before .before .read .ensures) (c .enum-told .given .1)
+accepted : (c : tie.After-enum-told) → Accepts (read (c .before .before .before .before .args .wish) (c .before .before .before .before .args .text .now)) (c .before .before .parse .result)
+accepted c = accepts _ _ (c .before .before .parse .ensures) (c .enum-told .given .1)
 
 held : (c : tie.After-matrix) → let a = accepted (c .before .before) in c .matrix .result ≡ coxOf (a .ns) (a .es)
 held c = let a = accepted (c .before .before) in c .matrix .ensures (a .ns) (a .es) (a .held)
@@ -28,8 +28,8 @@ few c = let t = c .before .before in let a = accepted t in rw (matrix-count _ _ 
 columns : (c : tie.After-normals) → let a = accepted (c .before .before .before .before .before) in c .normals .result ≡ mirrorsOf (c .before .before .before .matrix .result .count) (mirrors (matrix (a .es)) (c .before .before .before .matrix .result .count))
 columns c = let m = c .before .before .before in c .normals .ensures _ (matrix-at _ _ _ (held m))
 
-read-requires : tie.Need-read-requires
-read-requires c κs = search needs
+parse-requires : tie.Need-parse-requires
+parse-requires c κs = search needs
 
 enum-told : tie.Need-enum-told
 enum-told c = search needs
@@ -44,7 +44,7 @@ enum-told-2 : tie.Need-enum-told-2
 enum-told-2 c = search needs
 
 solved-requires : tie.Need-solved-requires
-solved-requires c κs = read-few _ _ _ (c .before .before .before .before .before .before .before .before .before .before .read .ensures)
+solved-requires c κs = read-few _ _ _ (c .before .before .before .before .before .before .before .before .before .before .parse .ensures)
 
 enum-known-fit : tie.Need-enum-known-fit
 enum-known-fit c = search needs
@@ -75,13 +75,13 @@ returns-2 c =
     generator-crowded _ (a .ns) (a .es) (a .is) _ (matrix-count _ _ _ (held m)) _ _ (crowded _ _ _ _ (columns y) (k .fit .given .1)) (c .refused-generator .ensures)
 
 returns-3 : tie.Need-returns-3
-returns-3 c = let k = c .before .before in generator-refused _ _ _ (refuses _ _ _ (k .before .before .read .ensures) (k .a .given .1)) (c .refused-generator2 .ensures)
+returns-3 c = let k = c .before .before in generator-refused _ _ _ (refuses _ _ _ (k .before .before .parse .ensures) (k .a .given .1)) (c .refused-generator2 .ensures)
 
 pub generator-spec : {M : Type 1} → statement M
 generator-spec =
     tie.close
     (tie.spec
-    read-requires
+    parse-requires
     enum-told
     matrix-requires
     normals-requires

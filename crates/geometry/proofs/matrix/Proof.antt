@@ -9,14 +9,14 @@ use Rattle.geometry.proofs.matrix.Statement.{statement}
 use Rattle.geometry.proofs.matrix.Tie as tie
 
 -- the text is accepted, and its matrix is held
-accepted : (c : tie.After-enum-told) → Accepts (read (c .before .before .before .before .args .wish) (c .before .before .before .before .args .text .now)) (c .before .before .read .result)
-accepted c = accepts _ _ (c .before .before .read .ensures) (c .enum-told .given .1)
+accepted : (c : tie.After-enum-told) → Accepts (read (c .before .before .before .before .args .wish) (c .before .before .before .before .args .text .now)) (c .before .before .parse .result)
+accepted c = accepts _ _ (c .before .before .parse .ensures) (c .enum-told .given .1)
 
 held : (c : tie.After-matrix) → let a = accepted (c .before .before) in c .matrix .result ≡ coxOf (a .ns) (a .es)
 held c = let a = accepted (c .before .before) in c .matrix .ensures (a .ns) (a .es) (a .held)
 
-read-requires : tie.Need-read-requires
-read-requires c κs = search needs
+parse-requires : tie.Need-parse-requires
+parse-requires c κs = search needs
 
 enum-told : tie.Need-enum-told
 enum-told c = search needs
@@ -38,13 +38,13 @@ returns c =
     matrix-shown _ (a .ns) (a .es) (a .is) _ (held m) _ (t .enum-told .given .1)
 
 returns-2 : tie.Need-returns-2
-returns-2 c = let k = c .before .before in square-refused _ _ _ (refuses _ _ _ (k .before .before .read .ensures) (k .a .given .1)) (c .refused-square .ensures)
+returns-2 c = let k = c .before .before in square-refused _ _ _ (refuses _ _ _ (k .before .before .parse .ensures) (k .a .given .1)) (c .refused-square .ensures)
 
 pub matrix-spec : {M : Type 1} → statement M
 matrix-spec =
     tie.close
     (tie.spec
-    read-requires
+    parse-requires
     enum-told
     matrix-requires
     enum-known-a

@@ -13,8 +13,8 @@ use Rattle.geometry.proofs.mirrors.Statement.{statement}
 use Rattle.geometry.proofs.mirrors.Tie as tie
 
 -- the text is accepted, and its matrix is held
-accepted : (c : tie.After-enum-told) → Accepts (read (c .before .before .before .before .args .wish) (c .before .before .before .before .args .text .now)) (c .before .before .read .result)
-accepted c = accepts _ _ (c .before .before .read .ensures) (c .enum-told .given .1)
+accepted : (c : tie.After-enum-told) → Accepts (read (c .before .before .before .before .args .wish) (c .before .before .before .before .args .text .now)) (c .before .before .parse .result)
+accepted c = accepts _ _ (c .before .before .parse .ensures) (c .enum-told .given .1)
 
 held : (c : tie.After-matrix) → let a = accepted (c .before .before) in c .matrix .result ≡ coxOf (a .ns) (a .es)
 held c = let a = accepted (c .before .before) in c .matrix .ensures (a .ns) (a .es) (a .held)
@@ -22,8 +22,8 @@ held c = let a = accepted (c .before .before) in c .matrix .ensures (a .ns) (a .
 few : (c : tie.After-matrix) → c .matrix .result .count ≤ limit
 few c = let t = c .before .before in let a = accepted t in rw (matrix-count _ _ _ (held c)) (accepted-few _ _ (a .ns) (a .es) (a .is))
 
-read-requires : tie.Need-read-requires
-read-requires c κs = search needs
+parse-requires : tie.Need-parse-requires
+parse-requires c κs = search needs
 
 enum-told : tie.Need-enum-told
 enum-told c = search needs
@@ -47,13 +47,13 @@ returns c =
     mirrors-shown _ (a .ns) (a .es) (a .is) _ (held m) _ (c .mirrored .ensures (matrix (a .es)) (matrix-at _ _ _ (held m)))
 
 returns-2 : tie.Need-returns-2
-returns-2 c = let k = c .before .before in mirrors-refused _ _ _ (refuses _ _ _ (k .before .before .read .ensures) (k .a .given .1)) (c .refused-square .ensures)
+returns-2 c = let k = c .before .before in mirrors-refused _ _ _ (refuses _ _ _ (k .before .before .parse .ensures) (k .a .given .1)) (c .refused-square .ensures)
 
 pub mirrors-spec : {M : Type 1} → statement M
 mirrors-spec =
     tie.close
     (tie.spec
-    read-requires
+    parse-requires
     enum-told
     matrix-requires
     mirrored-requires

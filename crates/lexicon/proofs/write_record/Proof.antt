@@ -10,8 +10,8 @@ use Rattle.lexicon.proofs.Fileable.{accepted-kept, accepted-numbers}
 use Rattle.lexicon.proofs.write_record.Statement.{statement}
 use Rattle.lexicon.proofs.write_record.Tie as tie
 
-read-requires : tie.Need-read-requires
-read-requires c κs = search needs
+parse-requires : tie.Need-parse-requires
+parse-requires c κs = search needs
 
 enum-told : tie.Need-enum-told
 enum-told c = search needs
@@ -20,8 +20,8 @@ refusal-requires : tie.Need-refusal-requires
 refusal-requires c κs = search needs
 
 -- the text is accepted
-accepted : (c : tie.After-enum-told) → Accepts (read (c .before .before .before .before .before .args .wish) (c .before .before .before .before .before .args .text .now)) (c .before .before .read .result)
-accepted c = accepts _ _ (c .before .before .read .ensures) (c .enum-told .given .1)
+accepted : (c : tie.After-enum-told) → Accepts (read (c .before .before .before .before .before .args .wish) (c .before .before .before .before .before .args .text .now)) (c .before .before .parse .result)
+accepted c = accepts _ _ (c .before .before .parse .ensures) (c .enum-told .given .1)
 
 returns : tie.Need-returns
 returns c = let a = accepted (c .before .before) in short (a .is) (c .before .if1 .taken) (c .refusal .ensures) refl
@@ -30,7 +30,7 @@ write-requires : tie.Need-write-requires
 write-requires c κs =
     let t = c .before .before .before in
     let a = accepted t in
-    (numbers-held _ (a .ns) (a .es) (a .held) (accepted-numbers _ _ (a .ns) (a .es) (a .is)), read-few _ _ _ (t .before .before .read .ensures), c .before .before .if1 .left)
+    (numbers-held _ (a .ns) (a .es) (a .held) (accepted-numbers _ _ (a .ns) (a .es) (a .is)), read-few _ _ _ (t .before .before .parse .ensures), c .before .before .if1 .left)
 
 enum-known-a : tie.Need-enum-known-a
 enum-known-a c = search needs
@@ -52,13 +52,13 @@ returns-2 c =
 returns-3 : tie.Need-returns-3
 returns-3 c =
     let k = c .before .before in
-    refused (refuses _ _ _ (k .before .before .read .ensures) (k .a .given .1)) (c .refusal2 .ensures) refl
+    refused (refuses _ _ _ (k .before .before .parse .ensures) (k .a .given .1)) (c .refusal2 .ensures) refl
 
 pub write-record-spec : {M : Type 1} → statement M
 write-record-spec =
     tie.close
     (tie.spec
-    read-requires
+    parse-requires
     enum-told
     refusal-requires
     returns

@@ -1,11 +1,11 @@
--- `builder::read_from` meets its contract: each answer is what the tests leave of `readFrom`. Assumes nothing.
+-- `builder::parse_from` meets its contract: each answer is what the tests leave of `readFrom`. Assumes nothing.
 use mathlib.Core.Path.{sym, ap, _∙_}
 use borrow.Author.Needs.{needs}
 use Rattle.parse.specs.Text.{Outcome}
 use Rattle.parse.specs.Reading.{answer, joined, kept}
 use Rattle.builder.proofs.ReadLaws.{too-long, not-low, low, beyond}
-use Rattle.builder.proofs.read_from.Statement.{statement}
-use Rattle.builder.proofs.read_from.Tie as tie
+use Rattle.builder.proofs.parse_from.Statement.{statement}
+use Rattle.builder.proofs.parse_from.Tie as tie
 
 refused-requires : tie.Need-refused-requires
 refused-requires c κs = search needs
@@ -44,6 +44,6 @@ returns-4 c =
     let n = t .before in
     c .read-text .ensures ∙ ap answer (sym (low _ _ _ _ (n .before .if1 .left) (n .not-ascii .ensures) (t .if2 .left)))
 
-pub read-from-spec : {M : Type 1} → statement M
-read-from-spec =
+pub parse-from-spec : {M : Type 1} → statement M
+parse-from-spec =
     tie.close (tie.spec refused-requires returns not-ascii-requires refused-requires-2 returns-2 refused-requires-3 returns-3 read-text-requires returns-4)
