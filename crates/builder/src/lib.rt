@@ -46,7 +46,11 @@ pub struct CdBuilder<'a> {
 pub fn new<'a>(diagram: &'a [u8], wish: bool) -> CdBuilder<'a>
     ensures { λ r. ⌜ (r .diagram ≡ diagram .entry) × (r .at ≡ 0) × (r .wish ≡ wish) ⌝ }
 {
-    CdBuilder { diagram, at: 0, wish }
+    CdBuilder {
+        diagram,
+        at: 0,
+        wish,
+    }
 }
 
 // The diagram of what is left, or what refuses it.

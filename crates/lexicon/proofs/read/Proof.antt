@@ -1,5 +1,4 @@
 -- `lexicon::read` meets its contract. Assumes nothing.
-use Rattle.parse.specs.Reading.{read, answer}
 use Rattle.lexicon.proofs.Answers.{read-few, mark-accepted, mark-refused}
 use borrow.Author.Needs.{needs}
 use Rattle.lexicon.proofs.read.Statement.{statement}

@@ -122,7 +122,8 @@ fn words(texts: &mut Vec<Vec<u8>>) {
     }
 }
 
-/// Every mixture of case of the two words, with every sign: alone, behind nine nodes, and before a missing node.
+/// Every mixture of case of the two words, with every sign, as every node from the first to the eleventh: at the end, before a
+/// fault and before a missing node.
 fn infinities(texts: &mut Vec<Vec<u8>>) {
     for word in ["inf", "infinity"] {
         for upper in 0..1 << word.len() {
@@ -130,7 +131,10 @@ fn infinities(texts: &mut Vec<Vec<u8>>) {
             let word: Vec<u8> = word.bytes().enumerate().map(cased).collect();
             for sign in ["", "+", "-"] {
                 let literal = [b"(", sign.as_bytes(), &word, b")"].concat();
-                texts.extend([literal.clone(), [b"ooooooooo", &literal[..]].concat(), [&literal[..], b"3*z"].concat()]);
+                for nodes in 0..11 {
+                    let behind = |end: &[u8]| [&b"oooooooooo"[..nodes], &literal, end].concat();
+                    texts.extend([behind(b""), behind(b"_"), behind(b"3*z")]);
+                }
             }
         }
     }
