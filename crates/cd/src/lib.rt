@@ -61,6 +61,7 @@ pub enum CdError {
     Crowded { column: usize },
     Infinite { node: usize },
     NoFamily,
+    NotSmallest,
     InfiniteLength { pos: usize },
 }
 
@@ -98,6 +99,7 @@ pub fn figures(e: CdError) -> Numbers
         CdError::Crowded { column } => one_field(15, column),
         CdError::Infinite { node } => one_field(16, node),
         CdError::NoFamily => no_field(17),
+        CdError::NotSmallest => no_field(22),
         CdError::InfiniteLength { pos } => one_field(23, pos),
     }
 }

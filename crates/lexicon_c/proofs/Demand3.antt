@@ -12,7 +12,7 @@ use Rattle.cd.specs.Arrays.{padded}
 use Rattle.cd.specs.Diagrams.{Stored, limit}
 use Rattle.cd.specs.Refusals.{numberOf}
 use Rattle.cd.specs.declared.CdError.{CdError}
-use Rattle.cd.specs.declared.CdError.the-variants.{TooLong, NotAscii, MismatchedParenthesis, UnexpectedEnding, ParseError, InvalidSymbol, InvalidEdge, RepeatEdge, OutOfRange, TooManyNodes, MissingNode, ShortBuffer, RecordLength, NoDiagram, Crowded, Infinite, NoFamily, InfiniteLength}
+use Rattle.cd.specs.declared.CdError.the-variants.{TooLong, NotAscii, MismatchedParenthesis, UnexpectedEnding, ParseError, InvalidSymbol, InvalidEdge, RepeatEdge, OutOfRange, TooManyNodes, MissingNode, ShortBuffer, RecordLength, NoDiagram, Crowded, Infinite, NoFamily, NotSmallest, InfiniteLength}
 use Rattle.cd.specs.declared.Node.{Node}
 use Rattle.filing.specs.Diagrams.{Carries, Iso}
 use Rattle.filing.specs.Numberings.{at}
@@ -49,6 +49,7 @@ numbered NoDiagram = omega arith
 numbered (Crowded k) = omega arith
 numbered (Infinite k) = omega arith
 numbered NoFamily = omega arith
+numbered NotSmallest = omega arith
 numbered (InfiniteLength p) = omega arith
 
 refused-numbered : (r : Filed) (e : CdError) (n : ℕ) → r .answer ≡ said.Refused e → n ≡ getD (told (outcome {A = ℕ} (r .answer) (r .count ∷ []) [])) 0 0 → 0 < n
