@@ -16,6 +16,13 @@ const ROOM: usize = 400;
 // What a buffer holds before. No record holds it throughout, so a text that is refused shows.
 const UNWRITTEN: u8 = 0xa5;
 
+// The lines take more than the 65,536 bytes of `io::large_buffer`.
+fn input() -> [u8; 131072]
+    ensures { λ r. ⌜ 131072 ≡ length r ⌝ }
+{
+    [0; 131072]
+}
+
 fn filled(b: u8) -> [u8; ROOM]
     ensures { λ r. ⌜ 400 ≡ length r ⌝ }
 {
@@ -313,7 +320,7 @@ fn line(s: &[u8], out: &mut [u8], at: usize) -> usize
 }
 
 fn main() {
-    let mut text = io::large_buffer();
+    let mut text = input();
     let n = lines::read_input(&mut text);
     let mut out = lines::buffer();
     let mut at = 0;
