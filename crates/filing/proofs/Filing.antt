@@ -2,7 +2,7 @@
 -- inverse carries one onto the other; and what is carried has the same layouts, so the same smallest one. Assumes nothing.
 use mathlib.Core.List.{List, _++_, head-eq-of-cons-eq, tail-eq-of-cons-eq}
 use mathlib.Core.Logic.{_≢_, _↔_}
-use mathlib.Core.Path.{_≡_, refl, sym, ap, _∙_, subst₂}
+use mathlib.Core.Path.{_≡_, refl, sym, ap, _∙_, subst, subst₂}
 use Prim.Native.Nat.{ℕ, _^_, _<_}
 use native.Mathlib.Decide.{decLt}
 use native.Mathlib.Omega.{arith}
@@ -159,12 +159,26 @@ module _ {N : ℕ} {d e : Diagram} (wd : IsDiagram N d) (we : IsDiagram N e) whe
       let a = carried c (identity (d .size)) in
       (_, agree-carries we wd (rw (c .size) at (c .numbering)) (identity (d .size)) (agree-sym a))
 
-  -- every layout of d is one of e, so e's least is no greater
-  no-greater : Iso d e → {a b : List ℕ} → IsRecord N d a → IsRecord N e b → b ≼ a
-  no-greater (f, c) ra rb =
-      let q : ℕ → ℕ = λ i. f (ra .numbering i) in
-      let nq : Numbering (e .size) q = rw (c .size) at (compose (c .numbering) (ra .valid)) in
-      rw (ra .laid, layout-same N wd we (ra .valid) nq (carried c (ra .valid))) (rb .least q nq)
+  -- each layout of d is one of e
+  layout-carried : {f p : ℕ → ℕ} → Carries d e f → Numbering (d .size) p → Numbering (e .size) (λ i. f (p i)) × (layout N d p ≡ layout N e (λ i. f (p i)))
+  layout-carried {f} {p} c np =
+      let nq : Numbering (e .size) (λ i. f (p i)) = rw (c .size) at (compose (c .numbering) np) in
+      (nq, layout-same N wd we np nq (carried c np))
+
+-- what carries a diagram carries its record
+pub record-carried : {N : ℕ} {d e : Diagram} → IsDiagram N d → IsDiagram N e → Iso d e → {a : List ℕ} → IsRecord N d a → IsRecord N e a
+record-carried {N} {d} {e} wd we (f, c) {a} r = record {
+  numbering = λ i. f (r .numbering i);
+  valid = layout-carried wd we c (r .valid) .0;
+  laid = r .laid ∙ layout-carried wd we c (r .valid) .1;
+  least = λ q nq. let (n, same) = layout-carried we wd (back .1) nq in subst (λ l. a ≼ l) (sym same) (r .least (λ i. back .0 (q i)) n);
+}
+  where
+    back : Iso e d
+    back = iso-sym wd we (f, c)
+
+pub record-unique : {N : ℕ} {d : Diagram} {a b : List ℕ} → IsRecord N d a → IsRecord N d b → a ≡ b
+record-unique ra rb = ≼-antisym (rw (rb .laid) (ra .least (rb .numbering) (rb .valid))) (rw (ra .laid) (rb .least (ra .numbering) (ra .valid)))
 
 -- THE FILING THEOREM
 module _ (N : ℕ) {d e : Diagram} (wd : IsDiagram N d) (we : IsDiagram N e) {a b : List ℕ} (ra : IsRecord N d a) (rb : IsRecord N e b) where
@@ -172,10 +186,7 @@ module _ (N : ℕ) {d e : Diagram} (wd : IsDiagram N d) (we : IsDiagram N e) {a 
   no-false-match s = let (f, c, to) = places-correspond N wd we (ra .valid) (rb .valid) (sym (ra .laid) ∙ s ∙ rb .laid) in (f, c)
 
   pub no-missed-match : Iso d e → a ≡ b
-  no-missed-match i = ≼-antisym (no-greater we wd (iso-sym wd we i) rb ra) (no-greater wd we i ra rb)
+  no-missed-match i = record-unique (record-carried wd we i ra) rb
 
   pub same-record-iff-iso : (a ≡ b) ↔ Iso d e
   same-record-iff-iso = (no-false-match, no-missed-match)
-
-pub record-unique : {N : ℕ} {d : Diagram} {a b : List ℕ} → IsRecord N d a → IsRecord N d b → a ≡ b
-record-unique ra rb = ≼-antisym (rw (rb .laid) (ra .least (rb .numbering) (rb .valid))) (rw (ra .laid) (rb .least (ra .numbering) (ra .valid)))

@@ -9,5 +9,6 @@ pub mod Filing
 pub mod Searching
 pub mod First
 pub mod Readback
+pub mod LaidOut
 pub mod Groups
 pub mod Sequences

@@ -1,5 +1,5 @@
 -- The diagram that a layout spells shows in its own order what the filed one shows under the layout's numbering, so that its layouts are the filed one's. So
--- bytes are a record exactly when the diagram that they spell is one and has them for its record. Assumes nothing.
+-- bytes are laid out exactly when what they spell is a diagram and they are its layout as it stands, and a record exactly when they are its record. Assumes nothing.
 use mathlib.Core.List.{List, _∷_, _++_, []}
 use mathlib.Core.Logic.{_≢_, _↔_}
 use mathlib.Core.Path.{_≡_, refl, sym, ap, _∙_, subst}
@@ -10,13 +10,13 @@ use native.Mathlib.Omega.{arith}
 use lib.ListN.{getD, take, drop}
 use lib.Seq.{getD-at}
 use Rattle.filing.specs.Bytes.{bytes, value}
-use Rattle.filing.specs.Diagrams.{Node, Diagram, IsNode, IsEdge, IsDiagram, Carries}
+use Rattle.filing.specs.Diagrams.{Node, Diagram, IsNode, IsEdge, IsDiagram, Carries, Iso}
 use Rattle.filing.specs.Fractions.{Fraction, SameFraction, lowest}
 use Rattle.filing.specs.Numberings.{Numbering}
-use Rattle.filing.specs.Readable.{Readable, numberAt, nodeAt, pairPlace, fractionAt, spelled}
+use Rattle.filing.specs.Readable.{Readable, LaidOut, numberAt, nodeAt, pairPlace, fractionAt, spelled}
 use Rattle.filing.specs.Records.{nodeLength, nodeBytes, pairBytes, layout, IsRecord}
 use Rattle.filing.proofs.Bytes.{length-bytes, value-bytes}
-use Rattle.filing.proofs.Filing.{carried, layout-same}
+use Rattle.filing.proofs.Filing.{carried, layout-same, iso-sym, record-carried}
 use Rattle.filing.proofs.Gcd.{lowest-is-same, lowest-twice}
 use Rattle.filing.proofs.Layouts.{lowest-edge}
 use Rattle.filing.proofs.Numberings.{identity, compose, differ}
@@ -104,30 +104,51 @@ module _ (N : ℕ) {d : Diagram} (w : IsDiagram N d) {p : ℕ → ℕ} (np : Num
   unfolding spelled layout
   read-layout nq = layout-same N read-is-diagram w nq (compose np nq) (carried read-carries nq)
 
-  read-record : IsRecord N d (layout N d p) → IsRecord N (spelled N (layout N d p)) (layout N d p)
-  unfolding spelled layout
-  read-record r = record {
-    numbering = λ i. i;
-    valid = identity (d .size);
-    laid = sym (read-layout (identity (d .size)));
-    least = λ q nq. rw (read-layout nq) (r .least (λ i. p (q i)) (compose np nq));
-  }
+-- ---- bytes that are laid out
 
--- ---- records read back
+module _ (N : ℕ) (l : List ℕ) (h : LaidOut N l) where
+  pub laid-out-diagram : IsDiagram N (spelled N l)
+  laid-out-diagram = subst (λ z. IsDiagram N (spelled N z)) (sym (h .laid)) (read-is-diagram N (h .is) (h .valid))
 
-pub spelled-laid : (N : ℕ) (l : List ℕ) → Readable N l → layout N (spelled N l) (λ i. i) ≡ l
-spelled-laid N l (d, w, r) = subst (λ z. layout N (spelled N z) (λ i. i) ≡ z) (sym (r .laid)) (read-layout N w (r .valid) (identity (d .size)))
+  pub laid-out-plain : layout N (spelled N l) (λ i. i) ≡ l
+  laid-out-plain = subst (λ z. layout N (spelled N z) (λ i. i) ≡ z) (sym (h .laid)) (read-layout N (h .is) (h .valid) (identity (h .of .size)))
 
--- bytes that can be read spell lowest terms
-pub readable-lowest : (N : ℕ) (l : List ℕ) → Readable N l → (i j : ℕ) → i < spelled N l .size → j < spelled N l .size → i ≢ j → lowest (spelled N l .edge i j) ≡ spelled N l .edge i j
-readable-lowest N l (d, w, r) =
-    subst (λ z. (i j : ℕ) → i < spelled N z .size → j < spelled N z .size → i ≢ j → lowest (spelled N z .edge i j) ≡ spelled N z .edge i j) (sym (r .laid)) (read-lowest N w (r .valid))
+  -- they spell lowest terms
+  pub laid-out-lowest : (i j : ℕ) → i < spelled N l .size → j < spelled N l .size → i ≢ j → lowest (spelled N l .edge i j) ≡ spelled N l .edge i j
+  laid-out-lowest =
+      subst (λ z. (i j : ℕ) → i < spelled N z .size → j < spelled N z .size → i ≢ j → lowest (spelled N z .edge i j) ≡ spelled N z .edge i j) (sym (h .laid))
+      (read-lowest N (h .is) (h .valid))
+
+  pub laid-out-iso : Iso (spelled N l) (h .of)
+  laid-out-iso = subst (λ z. Iso (spelled N z) (h .of)) (sym (h .laid)) (h .numbering, read-carries N (h .is) (h .valid))
+
+-- BYTES ARE LAID OUT EXACTLY WHEN WHAT THEY SPELL IS A DIAGRAM AND HAS THEM AS ITS LAYOUT AS IT STANDS
+pub laid-out-iff : (N : ℕ) (l : List ℕ) → LaidOut N l ↔ (IsDiagram N (spelled N l) × (layout N (spelled N l) (λ i. i) ≡ l))
+laid-out-iff N l = (λ h. (laid-out-diagram N l h, laid-out-plain N l h), from)
+  where
+    from : IsDiagram N (spelled N l) × (layout N (spelled N l) (λ i. i) ≡ l) → LaidOut N l
+    from (w, e) = record { of = spelled N l; is = w; numbering = λ i. i; valid = identity (spelled N l .size); laid = sym e }
+
+-- diagrams that are laid out as the same bytes have the same record, that of the diagram which the bytes spell
+module _ {N : ℕ} {l a : List ℕ} (h : LaidOut N l) where
+  pub record-of-spelled : IsRecord N (h .of) a → IsRecord N (spelled N l) a
+  record-of-spelled r = record-carried (h .is) (laid-out-diagram N l h) (iso-sym (laid-out-diagram N l h) (h .is) (laid-out-iso N l h)) r
+
+  pub record-of-laid-out : IsRecord N (spelled N l) a → IsRecord N (h .of) a
+  record-of-laid-out r = record-carried (laid-out-diagram N l h) (h .is) (laid-out-iso N l h) r
+
+-- ---- records
+
+abbrev pub readable-laid-out : {N : ℕ} {l : List ℕ} → Readable N l → LaidOut N l
+readable-laid-out (d, w, r) = record { of = d; is = w; numbering = r .numbering; valid = r .valid; laid = r .laid }
+
+-- a record is that of every diagram which is laid out so
+pub readable-record : {N : ℕ} {l : List ℕ} (h : LaidOut N l) → Readable N l → IsRecord N (h .of) l
+readable-record h (d, w, r) = record-of-laid-out h (record-of-spelled (readable-laid-out (d, w, r)) r)
 
 -- BYTES ARE A RECORD EXACTLY WHEN THE DIAGRAM THAT THEY SPELL IS ONE AND HAS THEM FOR ITS RECORD
 pub is-record-iff : (N : ℕ) (l : List ℕ) → Readable N l ↔ (IsDiagram N (spelled N l) × IsRecord N (spelled N l) l)
 is-record-iff N l = (to, λ r. (spelled N l, r .0, r .1))
   where
     to : Readable N l → IsDiagram N (spelled N l) × IsRecord N (spelled N l) l
-    to (d, w, r) =
-        subst (λ z. IsDiagram N (spelled N z) × IsRecord N (spelled N z) z) (sym (r .laid))
-        (read-is-diagram N w (r .valid), read-record N w (r .valid) (subst (IsRecord N d) (r .laid) r))
+    to (d, w, r) = let h = readable-laid-out (d, w, r) in (laid-out-diagram N l h, record-of-spelled h r)

@@ -1,15 +1,26 @@
 -- Document 01, "Filing record": "A record is read back to its diagram, in the record's own numbering, and that diagram's record is the same bytes."
 use mathlib.Core.List.{List}
+use mathlib.Core.Path.{_≡_}
 use Prim.Native.Nat.{ℕ, _+_, _-_, _*_, _/_, min, max}
 use lib.ListN.{getD, take, drop}
 use Rattle.filing.specs.Bytes.{value}
 use Rattle.filing.specs.Diagrams.{Node, Diagram, IsDiagram}
 use Rattle.filing.specs.Fractions.{Fraction}
-use Rattle.filing.specs.Records.{nodeLength, nodesLength, IsRecord}
+use Rattle.filing.specs.Numberings.{Numbering}
+use Rattle.filing.specs.Records.{nodeLength, nodesLength, layout, IsRecord}
 
 -- bytes that can be read: some diagram of at most N nodes has them for its record
 abbrev pub Readable : ℕ → List ℕ → Type 0
 Readable N l = (d : Diagram) × IsDiagram N d × IsRecord N d l
+
+-- Document 02, ticket K5: "what the filing section lays out for any diagram in any numbering": some diagram of at most N nodes and some numbering have these
+-- bytes as their layout
+pub record LaidOut (N : ℕ) (l : List ℕ) : Type 0 where
+  pub of : Diagram
+  pub is : IsDiagram N of
+  pub numbering : ℕ → ℕ
+  pub valid : Numbering (of .size) numbering
+  pub laid : l ≡ layout N of numbering
 
 -- ---- the diagram that bytes spell
 

@@ -18,7 +18,7 @@ use Rattle.lexicon.proofs.Fileable.{accepted-diagram}
 use Rattle.parse.specs.Reading as parse
 use Rattle.parse.specs.declared.Answer.the-variants as said
 use Rattle.parse.specs.declared.Read.{Read}
-use Rattle.readback.specs.ReadBack.{ReadBack, wrong-length, no-diagram, record-of}
+use Rattle.readback.specs.ReadBack.{ReadBack, wrong-length, no-diagram, not-smallest, record-of}
 use Rattle.tables.specs.Diagrams.{filed, diagram}
 use Rattle.tables.specs.Tables.{IsNumber, Numbers}
 use Rattle.tables.proofs.TableLayouts.{numbers-held}
@@ -52,6 +52,7 @@ Filable (parse.Refused e) = Unit {0}
 filable : {bytes : List ℕ} {x : parse.Reading} → ReadBack limit bytes x → Filable x
 filable (wrong-length n) = tt
 filable (no-diagram n m) = tt
+filable (not-smallest h n) = tt
 filable (record-of d r) = d
 
 pub record-valued : (bytes : List ℕ) (r : Read) → ReadsRecord bytes r → r .answer ≡ said.Accepted → Numbers (r .cd .nodes)

@@ -20,7 +20,7 @@ use Rattle.cd.specs.declared.Edge.{Edge}
 use Rattle.cd.specs.declared.Node.the-variants.{Unringed}
 use Rattle.cd.proofs.Stored.{joins-same}
 use Rattle.filing.specs.Bytes.{blocks}
-use Rattle.filing.specs.Diagrams.{Diagram, IsNode, IsEdge, IsDiagram}
+use Rattle.filing.specs.Diagrams.{Diagram, IsNode, IsEdge, IsDiagram, Iso}
 use Rattle.filing.specs.Diagrams as filing
 use Rattle.filing.specs.Fractions.{Fraction, SameFraction}
 use Rattle.filing.specs.Numberings.{Numbering}
@@ -29,7 +29,7 @@ use Rattle.filing.specs.Records.{layout}
 use Rattle.filing.proofs.Bytes.{singles-at, one-more}
 use Rattle.filing.proofs.Filing.{layout-same}
 use Rattle.filing.proofs.Gcd.{lowest-whole}
-use Rattle.filing.proofs.Numberings.{differ}
+use Rattle.filing.proofs.Numberings.{identity, differ}
 use Rattle.tables.specs.Diagrams.{filed, two, joint, diagram}
 use Rattle.tables.specs.Tables.{IsNumber, IsLowest, IsKept}
 use Rattle.tables.proofs.Joints.{two-edge, joint-symmetric}
@@ -215,6 +215,15 @@ module _ (N : ℕ) (l : List ℕ) (w : IsDiagram N (spelled N l)) where
 
       edges : (i j : ℕ) → i < readBack N l .size → j < readBack N l .size → i ≢ j → IsEdge (readBack N l .edge i j)
       edges i j h k ne = rw (spelled-kept i j (inside h) (inside k) ne) (kept-edge (spelled N l .edge i j) (w .edges i j (inside h) (inside k) ne))
+
+  -- numbered alike, the two show the same
+  pub spelled-iso : Iso (spelled N l) (readBack N l)
+  spelled-iso = (λ i. i, record {
+    size = sym (spelled-size N l);
+    numbering = identity (spelled N l .size);
+    nodes = λ i h. sym (spelled-node i h);
+    edges = λ i j h k ne. sym (spelled-edge i j h k ne);
+  })
 
   spelled-lowest : ((i j : ℕ) → i < spelled N l .size → j < spelled N l .size → i ≢ j → IsLowest (spelled N l .edge i j))
       → (i j : ℕ) → i < readBack N l .size → j < readBack N l .size → i ≢ j → IsLowest (readBack N l .edge i j)

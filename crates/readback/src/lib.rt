@@ -244,7 +244,7 @@ pub fn read(s: &[u8]) -> Read
     }
     let smallest = search::is_smallest(&t.kinds, &t.bits, &t.pairs, n);
     if !smallest {
-        return parse::refused(CdError::NoDiagram);
+        return parse::refused(CdError::NotSmallest);
     }
     Read {
         answer: Answer::Accepted,

@@ -1,5 +1,5 @@
--- `readback::read` meets its contract: a test that fails refutes what every record has, and what passes both is the record of the diagram that is answered
--- (proofs/Tested.antt). Assumes nothing.
+-- `readback::read` meets its contract: bytes that spell no diagram, or are not its layout, are laid out for none; of its layouts the smallest is read back as it, and
+-- any other is 22 (proofs/Tested.antt). Assumes nothing.
 use Prim.Native.Nat.{_≤_}
 use mathlib.Core.List.{List}
 use mathlib.Core.Path.{_≡_, sym, subst}
@@ -21,7 +21,7 @@ use Rattle.tables.specs.Diagrams.{diagram}
 use Rattle.tables.proofs.TableLayouts.{numbers-held}
 use Rattle.readback.specs.ReadBack.{wrong-length, no-diagram}
 use Rattle.cd.proofs.Decided.{refutes}
-use Rattle.readback.proofs.ReadBackLaws.{readable-kept}
+use Rattle.readback.proofs.ReadBackLaws.{laid-out-kept}
 use Rattle.readback.proofs.SpelledLaws.{readBack, spelled-is-diagram, spelled-is-kept, spelled-numbers}
 use Rattle.readback.proofs.Tested.{tables-few, plain-numbers, not-laid, not-smallest, read-smallest}
 use Rattle.readback.proofs.read.Statement.{statement}
@@ -46,7 +46,7 @@ refused-requires-2 c κs = search needs
 returns-2 : tie.Need-returns-2
 returns-2 c =
     let s = c .before .before in
-    (_, no-diagram (s .before .if1 .left) (λ r. refutes (s .is-spelled .ensures) (not-true _ (c .before .if2 .taken)) (readable-kept limit _ r)), c .refused2 .ensures)
+    (_, no-diagram (s .before .if1 .left) (λ r. refutes (s .is-spelled .ensures) (not-true _ (c .before .if2 .taken)) (laid-out-kept limit _ r)), c .refused2 .ensures)
 
 spelled-requires : tie.Need-spelled-requires
 spelled-requires c κs = (c .before .before .if1 .left, c .before .is-spelled .ensures .only-when (not-false _ (c .if2 .left)) .is)
@@ -102,7 +102,7 @@ returns-4 : tie.Need-returns-4
 returns-4 c =
     let o = c .before .before .before .before .before .before .before .before .before .before .before .before .before .before in
     let ne = refutes (c .before .before .is-smallest .ensures) (not-true _ (c .before .if4 .taken)) in
-    (_, no-diagram (long o) (not-smallest limit _ (spells o) _ (holds o) (laid (c .before .before .before .before .before .before .before)) ne), c .refused4 .ensures)
+    (_, not-smallest limit _ (spells o) _ (holds o) (laid (c .before .before .before .before .before .before .before)) ne, c .refused4 .ensures)
 
 returns-5 : tie.Need-returns-5
 returns-5 c =
