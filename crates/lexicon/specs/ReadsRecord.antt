@@ -1,4 +1,4 @@
--- The promise of `read_record`. Document 01, "What each operation refuses": "Reading a record: 13, length not 370; 14, no diagram has it."
+-- The promise of `read_record`. Document 01, "What each operation refuses": "Reading a record: 13, length not 370; 14, no diagram has it"; document 02, ticket K5: 22.
 use mathlib.Core.List.{List}
 use mathlib.Core.Path.{_≡_}
 use Prim.Native.Nat.{ℕ}
