@@ -218,12 +218,15 @@ module _ (N : ℕ) (l : List ℕ) (w : IsDiagram N (spelled N l)) where
 
   -- numbered alike, the two show the same
   pub spelled-iso : Iso (spelled N l) (readBack N l)
-  spelled-iso = (λ i. i, record {
-    size = sym (spelled-size N l);
-    numbering = identity (spelled N l .size);
-    nodes = λ i h. sym (spelled-node i h);
-    edges = λ i j h k ne. sym (spelled-edge i j h k ne);
-  })
+  spelled-iso = (
+    λ i. i,
+    record {
+      size = sym (spelled-size N l);
+      numbering = identity (spelled N l .size);
+      nodes = λ i h. sym (spelled-node i h);
+      edges = λ i j h k ne. sym (spelled-edge i j h k ne);
+    },
+  )
 
   spelled-lowest : ((i j : ℕ) → i < spelled N l .size → j < spelled N l .size → i ≢ j → IsLowest (spelled N l .edge i j))
       → (i j : ℕ) → i < readBack N l .size → j < readBack N l .size → i ≢ j → IsLowest (readBack N l .edge i j)

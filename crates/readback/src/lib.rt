@@ -233,14 +233,14 @@ pub fn read(s: &[u8]) -> Read
         return parse::refused(CdError::RecordLength);
     }
     if !is_spelled(s) {
-        return parse::refused(CdError::NoDiagram);
+        return parse::refused(CdError::NoDiagram); // for a count, kind, value or fraction
     }
     let cd = spelled(s);
     let t = tables::of(cd);
     let n = t.count;
     let laid = records::is_layout(s, &t.kinds, &t.bits, &t.pairs, n, search::plain());
     if !laid {
-        return parse::refused(CdError::NoDiagram);
+        return parse::refused(CdError::NoDiagram); // for a filler
     }
     let smallest = search::is_smallest(&t.kinds, &t.bits, &t.pairs, n);
     if !smallest {
