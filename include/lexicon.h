@@ -27,10 +27,11 @@
  *   11      a reference to a missing node                      the edge's place among all edges of the text
  *   12      a buffer shorter than what the call writes
  *   13      a record that is not 370 bytes long
- *   14      a record that no diagram has
+ *   14      bytes laid out for no diagram in any numbering
  *   15      mirrors that do not exist                          column: the first that does not fit
  *   16      an infinite length                                 node: the first such
  *   17      a letter or a size that no family has
+ *   22      a well laid out record that is not the smallest
  *   23      an infinite length that was not wished             position: the literal's last byte
  *
  * Positions, nodes, columns and places are counted from 0, positions in bytes: `x(1` is 3 at 3. 12 comes after all other refusals of a call.
@@ -81,7 +82,11 @@ size_t lexicon_write_record(const uint8_t *text, size_t text_len, size_t wish, u
 
 /* The diagram that has these bytes for its record, in the record's own numbering, laid out as for lexicon_read, in lowest terms as there; the edges i < j rank
  * by rising j, then by rising i. Tells the nodes and the edges.
- * Refuses with 13, 14 and 12. */
+ * Refuses with 13, 14, 22 and 12, tested in this order. Of bytes that somebody sent a caller may rely on this:
+ *   - 14 says that they are not what is laid out for any diagram in any numbering: the count, a kind, a value, a fraction or a filler is bad.
+ *   - 22 says that none of these is bad: they tell a figure, but under another numbering than the filed one. They must not serve as a key, since the figure
+ *     would have two. The figure has one right record, and each of its texts gets it: file its text again by lexicon_write_record, with the wish if a length
+ *     is infinite. Only a figure that no text spells, such as one with the length 1e300, can't be mended so. */
 size_t lexicon_read_record(const uint8_t *bytes, size_t bytes_len, uint64_t *out, size_t out_len, size_t answer[LEXICON_ANSWER]);
 
 /* The Coxeter matrix of a text's diagram: row r of column c at out[9 * c + r]; past the last node it goes on as that of nodes that nothing joins. Tells the nodes.

@@ -9,13 +9,18 @@
 #include "lexicon.h"
 
 #define LEN(array) (sizeof(array) / sizeof(array)[0])
+#define PLUS_INFINITY UINT64_C(0x7ff0000000000000)
 #define MINUS_INFINITY UINT64_C(0xfff0000000000000)
+#define MINUS_ZERO UINT64_C(0x8000000000000000)
 #define ANSWER(...) ((const size_t[LEXICON_ANSWER]){__VA_ARGS__}) // with zeros behind the numbers given
 
 enum {
     MOST_BYTES = 255, // of a text
     SPARE = 3,        // elements behind those that a call may write, which it must keep
     ROOM = (LEXICON_REFLECTIONS + SPARE) * sizeof(double),
+    NODE_BYTES = 9, // of a record
+    PAIR_BYTES = 8,
+    RENUMBERINGS = 24, // of four places
 };
 
 // A text and the wish, a record or a family: each call takes what it needs.
@@ -172,6 +177,11 @@ static struct input text(const char *typed)
 static struct input wished(const char *typed, size_t wish)
 {
     return (struct input){.bytes = typed, .len = strlen(typed), .wish = wish};
+}
+
+static struct input record(const uint8_t *at)
+{
+    return bytes(at, LEXICON_RECORD);
 }
 
 static struct input family(unsigned letter, size_t size)
@@ -376,12 +386,12 @@ static void bytes_at_every_position(void)
 // ---- records
 
 // Writes the record of a text that is accepted with the wish.
-static void record_of(const char *typed, uint8_t *record)
+static void record_of(const char *typed, uint8_t *filed)
 {
     now = &write_record;
     given = wished(typed, 1);
     given_out = LEXICON_RECORD;
-    check(run(record) == 0, "it refuses the text");
+    check(run(filed) == 0, "it refuses the text");
 }
 
 static void record_lengths(void)
@@ -391,39 +401,191 @@ static void record_lengths(void)
     expect_refusal(&read_record, bytes(zeros, 0), ANSWER(13));
     expect_refusal(&read_record, bytes(zeros, LEXICON_RECORD - 1), ANSWER(13));
     expect_refusal(&read_record, bytes(zeros, LEXICON_RECORD + 1), ANSWER(13));
-    expect_answer(&read_record, bytes(zeros, LEXICON_RECORD), ANSWER(0, 0, 0));
+    expect_answer(&read_record, record(zeros), ANSWER(0, 0, 0));
 }
 
 static void accepted_records(void)
 {
-    uint8_t record[LEXICON_RECORD];
-    record_of("x3o4o *a5*a", record); // the loop goes
-    expect_answer(&read_record, bytes(record, sizeof record), ANSWER(0, 3, 2));
-    record_of("(-inf)6/2(-0)", record);
-    expect_answer(&read_record, bytes(record, sizeof record), ANSWER(0, 2, 1));
+    uint8_t filed[LEXICON_RECORD];
+    record_of("x3o4o *a5*a", filed); // the loop goes
+    expect_answer(&read_record, record(filed), ANSWER(0, 3, 2));
+    record_of("(-inf)6/2(-0)", filed);
+    expect_answer(&read_record, record(filed), ANSWER(0, 2, 1));
     check_edge(3, 1);
     check_bits(1, MINUS_INFINITY);
 }
 
-// The record of two nodes, with each byte that is fixed given each other value.
-static void refused_records(void)
+// ---- records that somebody sent: laid out for no diagram, or not the smallest of their renumberings
+
+static size_t node_at(size_t i)
 {
-    uint8_t record[LEXICON_RECORD];
-    record_of("x4o", record);
-    for (size_t at = 0; at < sizeof record; at++) {
-        uint8_t kept = record[at];
-        bool fixed = at == 0 || (at >= 2 && at < 10) || (at >= 19 && at < 82) || at >= 90; // count, bits of the unringed node, unused places
-        for (unsigned value = 0; fixed && value < 256; value++) {
-            record[at] = (uint8_t)value;
-            if (value != kept)
-                expect_refusal(&read_record, bytes(record, sizeof record), ANSWER(14));
-        }
-        record[at] = kept;
+    return 1 + NODE_BYTES * i;
+}
+
+static size_t pair_at(size_t i, size_t j)
+{
+    size_t low = i < j ? i : j, high = i < j ? j : i;
+    return 82 + PAIR_BYTES * (high * (high - 1) / 2 + low);
+}
+
+static void swap(uint8_t *one, uint8_t *other, size_t len)
+{
+    for (size_t i = 0; i < len; i++) {
+        uint8_t kept = one[i];
+        one[i] = other[i];
+        other[i] = kept;
     }
-    record[1] = 3; // a snub node of length 0 before the ringed one: laid out well, but not the smallest
-    expect_refusal(&read_record, bytes(record, sizeof record), ANSWER(14));
-    memset(record, 0xff, sizeof record);
-    expect_refusal(&read_record, bytes(record, sizeof record), ANSWER(14));
+}
+
+// Renumbers bytes of n nodes: the nodes of two places are exchanged.
+static void exchange(uint8_t *laid, size_t n, size_t one, size_t other)
+{
+    if (one == other)
+        return;
+    swap(laid + node_at(one), laid + node_at(other), NODE_BYTES);
+    for (size_t i = 0; i < n; i++)
+        if (i != one && i != other)
+            swap(laid + pair_at(i, one), laid + pair_at(i, other), PAIR_BYTES);
+}
+
+static uint8_t renumbered[RENUMBERINGS][LEXICON_RECORD];
+
+// Adds every renumbering of bytes of n nodes that keeps the first few places, and returns how many there are then.
+static size_t renumber(uint8_t *laid, size_t n, size_t kept, size_t count)
+{
+    if (kept == n) {
+        memcpy(renumbered[count], laid, LEXICON_RECORD);
+        return count + 1;
+    }
+    for (size_t i = kept; i < n; i++) {
+        exchange(laid, n, kept, i);
+        count = renumber(laid, n, kept + 1, count);
+        exchange(laid, n, kept, i);
+    }
+    return count;
+}
+
+// As many renumberings as the figure has symmetries are its record. The others come after it and are refused.
+static void expect_one_record(const char *typed, size_t nodes, size_t edges, size_t symmetries)
+{
+    uint8_t filed[LEXICON_RECORD];
+    record_of(typed, filed);
+    size_t same = 0, count = renumber(filed, nodes, 0, 0);
+    for (size_t i = 0; i < count; i++) {
+        int order = memcmp(renumbered[i], filed, sizeof filed);
+        same += order == 0;
+        if (order == 0)
+            expect_answer(&read_record, record(renumbered[i]), ANSWER(0, nodes, edges));
+        else
+            expect_refusal(&read_record, record(renumbered[i]), ANSWER(22));
+        check(order >= 0, "a renumbering comes before the record");
+    }
+    check(same == symmetries, "another number of renumberings is the record");
+}
+
+static void other_numberings(void)
+{
+    expect_one_record("*a", 0, 0, 1);
+    expect_one_record("x", 1, 0, 1);
+    expect_one_record("x4o", 2, 1, 1);
+    expect_one_record("x3x", 2, 1, 2);
+    expect_one_record("x3o4o", 3, 2, 1);
+    expect_one_record("s5/2x3s", 3, 2, 1);
+    expect_one_record("x3x3x", 3, 2, 2);
+    expect_one_record("xxx", 3, 0, 6);
+    expect_one_record("(inf)(-inf)(0)(-0)", 4, 0, 1);
+    expect_one_record("x3x3x3x3*a", 4, 4, 8);
+}
+
+// Damages to the record of `x3o4o`, which has o, o and x, 4 between the first two, nothing between the first and the last, and 3. Each is 14 in every
+// numbering: 22 comes after it.
+static void damaged_records(void)
+{
+    enum { COUNT = 0, KIND = 1, BITS = 2, LENGTH = 20, FOUR = 82, NOTHING = 90 }; // the kind and bits of the first o, the bits of the x, pairs
+    static const struct {
+        size_t at, len;
+        uint8_t bytes[PAIR_BYTES];
+    } damages[] = {
+        {COUNT, 1, {0}}, {COUNT, 1, {2}}, {COUNT, 1, {4}}, {COUNT, 1, {9}}, {COUNT, 1, {10}}, {COUNT, 1, {255}},
+        {KIND, 1, {0}}, {KIND, 1, {4}}, {KIND, 1, {255}},
+        {BITS, 2, {0x3f, 0xf0}}, {BITS, 1, {0x80}}, {BITS, 8, {[7] = 1}}, // of an unringed node all are 0
+        {LENGTH, 2, {0x7f, 0xf8}}, {LENGTH, 2, {0xff, 0xff}}, {LENGTH, 8, {0x7f, 0xf0, [7] = 1}}, {LENGTH, 8, {0xff, 0xf0, [7] = 1}}, // nan
+        {FOUR, 8, {[3] = 6, [7] = 2}}, {FOUR, 8, {[3] = 4, [7] = 2}}, {NOTHING, 8, {[3] = 4, [7] = 2}}, // not in lowest terms
+        {FOUR, 8, {[3] = 4}}, {FOUR, 8, {[7] = 1}}, {FOUR, 8, {[3] = 1, [7] = 1}}, {FOUR, 8, {[3] = 3, [7] = 4}}, {NOTHING, 8, {0}}, // no edge
+        {28, 1, {1}}, {81, 1, {1}}, {106, 8, {[3] = 2, [7] = 1}}, {LEXICON_RECORD - 1, 1, {255}}, // fillers
+    };
+    uint8_t laid[LEXICON_RECORD];
+    for (size_t i = 0; i < LEN(damages); i++) {
+        record_of("x3o4o", laid);
+        memcpy(laid + damages[i].at, damages[i].bytes, damages[i].len);
+        size_t count = renumber(laid, 3, 0, 0);
+        for (size_t k = 0; k < count; k++)
+            expect_refusal(&read_record, record(renumbered[k]), ANSWER(14));
+    }
+    memset(laid, 0xff, sizeof laid);
+    expect_refusal(&read_record, record(laid), ANSWER(14));
+}
+
+// Whether the layout of two nodes, one of them unringed and at this place, has but one value for a byte: count, bits of that node, unused places.
+static bool fixed(size_t unringed, size_t at)
+{
+    return at == 0 || (at > node_at(unringed) && at < node_at(unringed + 1)) || (at >= node_at(2) && at < pair_at(0, 1)) || at >= pair_at(0, 2);
+}
+
+// The record of two nodes and its other numbering, with each byte that is fixed given each other value.
+static void damaged_bytes(void)
+{
+    uint8_t laid[LEXICON_RECORD];
+    record_of("x4o", laid);
+    for (size_t unringed = 0; unringed < 2; unringed++) {
+        for (size_t at = 0; at < sizeof laid; at++) {
+            uint8_t kept = laid[at];
+            for (unsigned value = 0; fixed(unringed, at) && value < 256; value++) {
+                laid[at] = (uint8_t)value;
+                if (value != kept)
+                    expect_refusal(&read_record, record(laid), ANSWER(14));
+            }
+            laid[at] = kept;
+        }
+        exchange(laid, 2, 0, 1);
+    }
+    laid[1] = 3; // a snub node of length 0 before the ringed one: laid out well, but not the smallest
+    expect_refusal(&read_record, record(laid), ANSWER(22));
+}
+
+// Any length but nan, those that no text has among them, and the largest fraction.
+static void any_values(void)
+{
+    static const uint64_t lengths[] = {0, MINUS_ZERO, 1, PLUS_INFINITY - 1, PLUS_INFINITY, MINUS_INFINITY};
+    uint8_t laid[LEXICON_RECORD];
+    for (size_t i = 0; i < LEN(lengths); i++) {
+        record_of("x3o4o", laid);
+        for (size_t k = 0; k < 8; k++)
+            laid[node_at(2) + 1 + k] = (uint8_t)(lengths[i] >> (56 - 8 * k));
+        expect_answer(&read_record, record(laid), ANSWER(0, 3, 2));
+        check_bits(2, lengths[i]);
+        exchange(laid, 3, 0, 2);
+        expect_refusal(&read_record, record(laid), ANSWER(22));
+    }
+    record_of("x4294967295/4294967294o", laid);
+    expect_answer(&read_record, record(laid), ANSWER(0, 2, 1));
+    check_edge(UINT32_MAX, UINT32_MAX - 1);
+}
+
+// Bytes in the order typed are refused. Each text of the figure gets the record that is read back.
+static void mended_records(void)
+{
+    static const char *const texts[] = {"x3o4o", "o4o3x", "o6/2x *a4o", "x3o4o *a5*a"};
+    uint8_t sent[LEXICON_RECORD], filed[LEXICON_RECORD], mended[LEXICON_RECORD];
+    record_of(texts[0], filed);
+    memcpy(sent, filed, sizeof filed);
+    exchange(sent, 3, 0, 2);
+    expect_refusal(&read_record, record(sent), ANSWER(22));
+    for (size_t i = 0; i < LEN(texts); i++) {
+        record_of(texts[i], mended);
+        check(memcmp(filed, mended, sizeof filed) == 0, "its record is another");
+        expect_answer(&read_record, record(mended), ANSWER(0, 3, 2));
+    }
 }
 
 // ---- families
@@ -521,7 +683,11 @@ int main(void)
     bytes_at_every_position();
     record_lengths();
     accepted_records();
-    refused_records();
+    other_numberings();
+    damaged_records();
+    damaged_bytes();
+    any_values();
+    mended_records();
     families();
     past_one_node();
     printf("edges: %lu checks\n", checks);

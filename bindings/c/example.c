@@ -1,4 +1,5 @@
-// Prints what the library tells of each argument, or of a few texts without any, and then which of them are the same figure.
+// Prints what the library tells of each argument, or of a few texts without any, then which of them are the same figure, and what it says of three records
+// that somebody sent.
 // Usage: example [TEXT..]
 #include <inttypes.h>
 #include <stdbool.h>
@@ -149,6 +150,34 @@ static void print_same(struct article *articles, size_t count)
     }
 }
 
+// Bytes that somebody sent with a text, which was accepted. They serve as a key only if they are read; at 22 the text's own record takes their place.
+static void print_sent(const char *text, const uint8_t *sent)
+{
+    uint64_t diagram[LEXICON_DIAGRAM];
+    size_t answer[LEXICON_ANSWER];
+    printf("sent with `%s`\n", text);
+    size_t refusal = lexicon_read_record(sent, LEXICON_RECORD, diagram, LEXICON_DIAGRAM, answer);
+    if (refusal == 0) {
+        print_nodes(diagram, answer[1]);
+        print_edges(diagram, answer[1], answer[2]);
+        return;
+    }
+    print_refusal("record", answer);
+    if (refusal == 22)
+        print_record(&(struct article){.text = text});
+}
+
+// `x4o` as it is filed, numbered as it was typed, and with a filler that is not zero.
+static void print_all_sent(void)
+{
+    static const uint8_t filed[LEXICON_RECORD] = {2, [1] = 1, [10] = 2, 0x3f, 0xf0, [85] = 4, [89] = 1};
+    static const uint8_t typed[LEXICON_RECORD] = {2, [1] = 2, 0x3f, 0xf0, [10] = 1, [85] = 4, [89] = 1};
+    static const uint8_t damaged[LEXICON_RECORD] = {2, [1] = 2, 0x3f, 0xf0, [10] = 1, [85] = 4, [89] = 1, [369] = 1};
+    print_sent("x4o", filed);
+    print_sent("x4o", typed);
+    print_sent("x4o", damaged);
+}
+
 int main(int argc, char **argv)
 {
     static const char *const samples[] = {"x3o4o", "x4o3o", "o4o3x", "x5/2o5s3*c", "x3o", "x6/2o", "x4o4o", "(inf)3o", "*a", "x1o", "x4/6o", "x3o3*a",
@@ -171,5 +200,6 @@ int main(int argc, char **argv)
     }
     print_same(articles, accepted);
     free(articles);
+    print_all_sent();
     return 0;
 }

@@ -106,7 +106,8 @@ pub enum CdError {
     /// A record is not 370 bytes long.
     RecordLength,
 
-    /// No diagram has these bytes for its record.
+    /// The bytes of a record are not what is laid out for any diagram in any numbering: the count, a
+    /// kind, a value, a fraction or a filler is bad.
     NoDiagram,
 
     /// The mirrors don't exist: they would not fit in spherical space.
@@ -124,6 +125,11 @@ pub enum CdError {
     /// No family has this letter and size.
     NoFamily,
 
+    /// A record is well laid out, but not the smallest of its renumberings: it tells a figure under
+    /// another numbering than the filed one, and must not serve as a key. Each text of the figure
+    /// gets the right record, by [`Cd::record`](crate::Cd::record).
+    NotSmallest,
+
     /// A text has an infinite length, such as `(inf)`, and was not read by
     /// [`Cd::parse_with_infinite`](crate::Cd::parse_with_infinite).
     InfiniteLength {
@@ -133,8 +139,8 @@ pub enum CdError {
 }
 
 impl CdError {
-    /// The number of this refusal in the specification and in `lexicon.h`, 1 to 17 or 23, for
-    /// logs and for messages to programs in other languages.
+    /// The number of this refusal in the specification and in `lexicon.h`, 1 to 17, 22 or 23,
+    /// for logs and for messages to programs in other languages.
     #[must_use]
     pub fn number(&self) -> u32 {
         match self {
@@ -155,6 +161,7 @@ impl CdError {
             Self::Crowded { .. } => 15,
             Self::Infinite { .. } => 16,
             Self::NoFamily => 17,
+            Self::NotSmallest => 22,
             Self::InfiniteLength { .. } => 23,
         }
     }
@@ -183,6 +190,7 @@ impl CdError {
             15 => Self::Crowded { column: a },
             16 => Self::Infinite { node: a },
             17 => Self::NoFamily,
+            22 => Self::NotSmallest,
             23 => Self::InfiniteLength { pos: a },
             _ => unreachable!("lexicon.h has no refusal {number}"),
         }
@@ -210,12 +218,19 @@ impl fmt::Display for CdError {
             Self::MissingNode { edge } => write!(f, "missing node in edge {edge}"),
             Self::ShortBuffer => write!(f, "buffer too short"),
             Self::RecordLength => write!(f, "record not 370 bytes long"),
-            Self::NoDiagram => write!(f, "no diagram has this record"),
+            Self::NoDiagram => write!(
+                f,
+                "record not the layout of any diagram: bad count, kind, value, fraction or filler"
+            ),
             Self::Crowded { column } => {
                 write!(f, "mirror {column} does not fit in spherical space")
             }
             Self::Infinite { node } => write!(f, "infinite length at node {node}"),
             Self::NoFamily => write!(f, "no family of this letter and size"),
+            Self::NotSmallest => write!(
+                f,
+                "record well laid out, but not the smallest numbering: file the figure's text again"
+            ),
             Self::InfiniteLength { pos } => write!(f, "infinite length at position {pos}"),
         }
     }

@@ -50,8 +50,9 @@ impl Record {
     ///
     /// # Errors
     ///
-    /// [`CdError::RecordLength`] if there are not 370 of them, [`CdError::NoDiagram`] if no diagram
-    /// has them.
+    /// [`CdError::RecordLength`] if there are not 370 of them, else [`CdError::NoDiagram`] if they are
+    /// not what is laid out for any diagram in any numbering, else [`CdError::NotSmallest`] if
+    /// another numbering of their diagram gives smaller ones.
     ///
     /// ```
     /// use lexicon::{Cd, CdError, Record};
@@ -60,6 +61,23 @@ impl Record {
     /// assert_eq!(Record::from_bytes(record.as_bytes()), Ok(record));
     /// assert_eq!(Record::from_bytes(b"x4o3o"), Err(CdError::RecordLength));
     /// assert_eq!(Record::from_bytes(&[255; Record::LEN]), Err(CdError::NoDiagram));
+    /// # Ok::<(), CdError>(())
+    /// ```
+    ///
+    /// Bytes that are refused as [`CdError::NotSmallest`] tell a figure. It has one right record, and
+    /// each of its texts gets that one:
+    ///
+    /// ```
+    /// use lexicon::{Cd, CdError, Record};
+    ///
+    /// let mut sent = [0; Record::LEN]; // x4o, numbered as it was typed
+    /// sent[..4].copy_from_slice(&[2, 2, 0x3f, 0xf0]);
+    /// (sent[10], sent[85], sent[89]) = (1, 4, 1);
+    /// assert_eq!(Record::from_bytes(&sent), Err(CdError::NotSmallest));
+    ///
+    /// let mended = Cd::parse("x4o")?.record();
+    /// assert_eq!(mended, Cd::parse("o4x")?.record());
+    /// assert_eq!(Record::from_bytes(mended.as_bytes()), Ok(mended));
     /// # Ok::<(), CdError>(())
     /// ```
     pub fn from_bytes(bytes: &[u8]) -> CdResult<Self> {
@@ -72,7 +90,7 @@ impl Record {
     /// them, where [`Record::from_bytes`] would look for a numbering that gives smaller ones.
     ///
     /// Given other bytes, it returns a key of no figure, of another figure, or a second key of one,
-    /// and [`Record::diagram`] panics unless a diagram has them.
+    /// and [`Record::diagram`] panics unless [`Record::from_bytes`] takes them.
     ///
     /// ```
     /// use lexicon::{Cd, Record};
@@ -98,7 +116,7 @@ impl Record {
     ///
     /// # Panics
     ///
-    /// If [`Record::from_trusted_bytes`] was given bytes that no diagram has.
+    /// If [`Record::from_trusted_bytes`] was given bytes that [`Record::from_bytes`] refuses.
     ///
     /// ```
     /// use lexicon::{Cd, Node};
@@ -150,7 +168,7 @@ impl FromStr for Record {
     type Err = RecordError;
 
     /// Reads 740 hexadecimal digits in either case. The length is tested first, then the digits,
-    /// then the record.
+    /// then the bytes, as by [`Record::from_bytes`].
     fn from_str(text: &str) -> Result<Self, RecordError> {
         let len = text.len();
         if len != 2 * Self::LEN {
@@ -191,7 +209,8 @@ pub enum RecordError {
         pos: usize,
     },
 
-    /// The digits are those of no record. The library's refusal is its [`source`](Error::source).
+    /// The digits are those of no record. The library's refusal is its [`source`](Error::source):
+    /// [`CdError::NoDiagram`] or [`CdError::NotSmallest`].
     Refused(CdError),
 }
 

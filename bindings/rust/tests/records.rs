@@ -5,7 +5,7 @@ use std::{
     error::Error,
 };
 
-use lexicon::{Cd, CdError, Record, RecordError, StoredEdge};
+use lexicon::{Cd, CdError, Node, Record, RecordError, StoredEdge};
 
 fn cd(text: &str) -> Cd {
     Cd::parse(text).unwrap()
@@ -153,27 +153,149 @@ fn other_lengths_are_refused() {
     assert_eq!(Record::from_bytes(&bytes[..370]), Ok(record("*a")));
 }
 
+type Bytes = [u8; Record::LEN];
+
+const NODE: usize = 9; // bytes
+const PAIR: usize = 8;
+
+fn node_at(i: usize) -> usize {
+    1 + NODE * i
+}
+
+fn pair_at(i: usize, j: usize) -> usize {
+    let (low, high) = (i.min(j), i.max(j));
+    82 + PAIR * (high * (high - 1) / 2 + low)
+}
+
+/// The same bytes with these at a place.
+fn changed(bytes: &Bytes, at: usize, by: &[u8]) -> Bytes {
+    let mut changed = *bytes;
+    changed[at..at + by.len()].copy_from_slice(by);
+    changed
+}
+
+/// The bytes of a diagram renumbered: place i gets the node of place `order[i]`.
+fn renumbered(bytes: &Bytes, order: &[usize]) -> Bytes {
+    let mut out = *bytes;
+    for (i, &node) in order.iter().enumerate() {
+        out = changed(&out, node_at(i), &bytes[node_at(node)..][..NODE]);
+        for (j, &other) in order[..i].iter().enumerate() {
+            out = changed(&out, pair_at(i, j), &bytes[pair_at(node, other)..][..PAIR]);
+        }
+    }
+    out
+}
+
+/// Every order of the numbers below n.
+fn orders(n: usize) -> Vec<Vec<usize>> {
+    let Some(last) = n.checked_sub(1) else {
+        return vec![vec![]];
+    };
+    let with_last = |order: Vec<usize>| {
+        (0..n).map(move |place| [&order[..place], &[last], &order[place..]].concat())
+    };
+    orders(last).into_iter().flat_map(with_last).collect()
+}
+
+/// As many renumberings as the figure has symmetries are its record.
+#[test]
+fn every_other_numbering_is_not_the_smallest() {
+    for (text, symmetries) in [
+        ("*a", 1),
+        ("x", 1),
+        ("x4o", 1),
+        ("x3x", 2),
+        ("x3o4o", 1),
+        ("s5/2x3s", 1),
+        ("x3x3x", 2),
+        ("xxx", 6),
+        ("(0)(-0)q3(-1)", 1),
+        ("x3x3x3x3*a", 8),
+        ("x3x x3o s", 2),
+    ] {
+        let record = record(text);
+        let mut same = 0;
+        for order in orders(cd(text).node_count()) {
+            let bytes = renumbered(record.as_bytes(), &order);
+            let read = Record::from_bytes(&bytes);
+            if bytes == *record.as_bytes() {
+                assert_eq!(read, Ok(record), "{text} {order:?}");
+                same += 1;
+            } else {
+                assert_eq!(read, Err(CdError::NotSmallest), "{text} {order:?}");
+                assert!(bytes > *record.as_bytes(), "{text} {order:?}");
+            }
+        }
+        assert_eq!(same, symmetries, "{text}");
+    }
+}
+
+/// The record of `x3o4o` so changed, in every numbering: that is tested last.
+fn assert_no_diagram(at: usize, by: &[u8]) {
+    let damaged = changed(record("x3o4o").as_bytes(), at, by);
+    for order in orders(3) {
+        let read = Record::from_bytes(&renumbered(&damaged, &order));
+        assert_eq!(read, Err(CdError::NoDiagram), "{by:?} at {at}, {order:?}");
+    }
+}
+
+fn assert_no_edge(at: usize, num: u32, den: u32) {
+    assert_no_diagram(at, &[num.to_be_bytes(), den.to_be_bytes()].concat());
+}
+
+/// The record has o, o and x, 4 between the first two, nothing between the first and the last, and 3.
 #[test]
 fn bytes_of_no_diagram_are_refused() {
-    let good = *record("x4o").as_bytes();
-    // The count, a kind, an unringed node's bits, an edge 4/0, an edge 4/2, a filler.
-    for (at, byte) in [(0, 10), (1, 0), (9, 1), (89, 0), (89, 2), (369, 1)] {
-        let mut bytes = good;
-        bytes[at] = byte;
-        assert_eq!(
-            Record::from_bytes(&bytes),
-            Err(CdError::NoDiagram),
-            "byte {at}"
-        );
+    for count in [0, 2, 4, 9, 10, 255] {
+        assert_no_diagram(0, &[count]);
     }
-    let mut nan = good;
-    nan[12] = 0xf8;
-    nan[11] = 0x7f;
-    assert_eq!(Record::from_bytes(&nan), Err(CdError::NoDiagram));
-    // The nodes the other way round: a layout of x4o, but not the smallest.
-    let mut typed = good;
-    typed[1..19].rotate_left(9);
-    assert_eq!(Record::from_bytes(&typed), Err(CdError::NoDiagram));
+    for kind in [0, 4, 255] {
+        assert_no_diagram(node_at(0), &[kind]);
+    }
+    for length in [1.0_f64, -0.0, 5e-324] {
+        assert_no_diagram(node_at(0) + 1, &length.to_be_bytes()); // but o has none
+    }
+    for nan in [0x7ff8 << 48, 0xfff8 << 48, (0x7ff_u64 << 52) + 1, u64::MAX] {
+        assert_no_diagram(node_at(2) + 1, &nan.to_be_bytes());
+    }
+    for (num, den) in [(6, 2), (4, 2), (4, 0), (0, 1), (1, 1), (3, 4)] {
+        assert_no_edge(pair_at(0, 1), num, den);
+    }
+    assert_no_edge(pair_at(0, 2), 4, 2);
+    assert_no_edge(pair_at(0, 2), 0, 0);
+    assert_no_edge(pair_at(0, 3), 2, 1); // an unused place, which is zero
+    for filler in [node_at(3), pair_at(0, 1) - 1, Record::LEN - 1] {
+        assert_no_diagram(filler, &[1]);
+    }
+    let read = Record::from_bytes(&[255; Record::LEN]);
+    assert_eq!(read, Err(CdError::NoDiagram));
+}
+
+/// Also those that no text has. Only nan is none.
+#[test]
+fn any_length_is_read() {
+    let (large, infinite) = (f64::MAX, f64::INFINITY);
+    let record = record("x3o4o");
+    for length in [0.0, -0.0, 5e-324, 1e300, large, -large, infinite, -infinite] {
+        let bytes = changed(record.as_bytes(), node_at(2) + 1, &length.to_be_bytes());
+        let nodes = Record::from_bytes(&bytes).unwrap().diagram().nodes;
+        assert_eq!(nodes[2], Node::Ringed(length));
+        let turned = Record::from_bytes(&renumbered(&bytes, &[2, 1, 0]));
+        assert_eq!(turned, Err(CdError::NotSmallest), "{length}");
+    }
+}
+
+/// What was sent is refused, and every text of the figure gets the record that is read back.
+#[test]
+fn bad_numbering_is_mended_by_the_text() {
+    let record = record("x3o4o");
+    let sent = renumbered(record.as_bytes(), &[2, 1, 0]); // as typed
+    assert_eq!(Record::from_bytes(&sent), Err(CdError::NotSmallest));
+    for text in ["x3o4o", "o4o3x", "o6/2x *a4o", "x3o4o *a5*a"] {
+        let mended = cd(text).record();
+        assert_eq!(mended, record, "{text}");
+        assert_eq!(Record::from_bytes(mended.as_bytes()), Ok(mended), "{text}");
+    }
 }
 
 #[test]
@@ -184,9 +306,16 @@ fn trusted_bytes_are_taken_as_they_are() {
 }
 
 #[test]
-#[should_panic(expected = "no diagram has this record")]
-fn a_diagram_of_trusted_bytes_that_are_no_record_panics() {
+#[should_panic(expected = "not the layout of any diagram")]
+fn a_diagram_of_trusted_bytes_that_are_no_layout_panics() {
     let _ = Record::from_trusted_bytes(&[255; Record::LEN]).diagram();
+}
+
+#[test]
+#[should_panic(expected = "not the smallest numbering")]
+fn a_diagram_of_trusted_bytes_that_are_numbered_badly_panics() {
+    let sent = renumbered(record("x4o").as_bytes(), &[1, 0]);
+    let _ = Record::from_trusted_bytes(&sent).diagram();
 }
 
 #[test]
@@ -213,11 +342,19 @@ fn wrong_digits_are_told() {
     text.replace_range(3..5, "é");
     assert_eq!(refusal(&text), RecordError::Digit { pos: 3 });
 
-    let refused = refusal(&digits.replacen("02", "0a", 1));
-    assert_eq!(refused, RecordError::Refused(CdError::NoDiagram));
-    assert_eq!(refused.to_string(), "the digits are those of no record");
-    let source = refused.source().and_then(|e| e.downcast_ref());
-    assert_eq!(source, Some(&CdError::NoDiagram));
+    let damaged = digits.replacen("02", "0a", 1);
+    let turned = renumbered(record("x4o").as_bytes(), &[1, 0]);
+    let turned = Record::from_trusted_bytes(&turned).to_string();
+    for (text, reason) in [
+        (damaged, CdError::NoDiagram),
+        (turned, CdError::NotSmallest),
+    ] {
+        let refused = refusal(&text);
+        assert_eq!(refused, RecordError::Refused(reason));
+        assert_eq!(refused.to_string(), "the digits are those of no record");
+        let source = refused.source().and_then(|e| e.downcast_ref());
+        assert_eq!(source, Some(&reason));
+    }
 
     let short = refusal("0");
     assert_eq!(short.to_string(), "1 bytes in place of 740 digits");

@@ -109,7 +109,19 @@ fn records() {
 
     let nothing = Record::from_bytes(&[1; 370]).unwrap_err();
     assert_eq!((nothing, nothing.number()), (CdError::NoDiagram, 14));
-    assert_eq!(nothing.to_string(), "no diagram has this record");
+    let words = "record not the layout of any diagram: bad count, kind, value, fraction or filler";
+    assert_eq!(nothing.to_string(), words);
+
+    let mut bytes = *Cd::parse("xo").unwrap().record().as_bytes();
+    bytes[1..19].rotate_left(9); // the two nodes exchanged
+    let turned = Record::from_bytes(&bytes).unwrap_err();
+    assert_eq!((turned, turned.number()), (CdError::NotSmallest, 22));
+    let words =
+        "record well laid out, but not the smallest numbering: file the figure's text again";
+    assert_eq!(turned.to_string(), words);
+
+    bytes[369] = 1; // 14 is tested before 22
+    assert_eq!(Record::from_bytes(&bytes), Err(CdError::NoDiagram));
 }
 
 #[test]
