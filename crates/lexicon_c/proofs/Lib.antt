@@ -1,4 +1,5 @@
--- Why values have bits, how many entries reflections have, and demand 3 of the calls for C.
+-- Why values have bits, how many entries reflections have, and of the calls for C demand 3 and the law of mending.
 mod Valued
 mod Entries
 pub mod Demand3
+pub mod Mending
