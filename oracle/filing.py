@@ -1,8 +1,8 @@
-"""The filing record and its numbering, from document 01's words and ticket K9's alone, and what the program `replay_filing` answers to
-each line of its input.
+"""The filing record, its numbering and its reading back, from the words of document 01 and of tickets K9 and K5 alone, and what the program
+`replay_filing` answers to each line of its input.
 
-`filing.py`        the two ways to a record agree, and those to its numbering; crates/replay_filing holds the lines of filing_corpus.py,
-                   and as its answers the model's
+`filing.py`        the two ways to a record agree, those to its numbering and those to what reading bytes back comes to;
+                   crates/replay_filing holds the lines of filing_corpus.py, and as its answers the model's
 `filing.py write`  stores them
 
 Texts are read with ticket K6's wish. A line's text ends at the `|`, which no text holds. OOO, VV, LLL and digests are lower-case
@@ -13,7 +13,7 @@ hexadecimal. A numbering has a digit for each place, the number of the text's no
     TEXT|TEXT       same DIGEST NUMBERING NUMBERING    the records of two accepted texts; nodes at the same place correspond
                     apart DIGEST DIGEST
     TEXT|!OOOVV..   ok NODES EDGES                     the record read back after its byte OOO became VV, for each five digits
-                    no 13, no 14
+                    no 13, no 14, no 22                not 370 bytes; no layout of any diagram; one that is not the smallest
     TEXT|~LLL       the same                           the first LLL bytes of the record and 30 zeros, read back
     TEXT|^LLL       ok DIGEST                          the record written to the first LLL of 400 bytes a5; the digest is of all 400
                     no .. DIGEST                       12, or the text's refusal
@@ -37,6 +37,7 @@ LENGTH, BUFFER = 370, 400
 KINDS = {"o": 1, "x": 2, "s": 3}
 KIND_NAMES = {number: kind for kind, number in KINDS.items()}
 UNJOINED = struct.pack(">II", 2, 1)
+INFINITE = 0x7ff << 52                                                      # the bits of infinity
 
 
 def node_at(i):
@@ -135,13 +136,48 @@ def first_by_all(diagram):
 
 
 def read_back(data):
-    """The diagram that the record is read back to, or 13 or 14. If a diagram has these bytes, so has the one that they spell."""
+    """The diagram that the record is read back to, or 13, 14 or 22.
+
+    K5: "14 means that the bytes are not what the filing section lays out for any diagram in any numbering". If a diagram in some numbering
+    has them for its layout, so has the one that they spell, in its own order: only that one is tried. "It refuses a well laid out record
+    that isn't the smallest of its renumberings with 22, tested after 14"."""
     if len(data) != LENGTH:
         return 13
     diagram = spelled(data)
-    if not diagram or record(diagram) != data:
+    if not diagram or laid_out(*diagram, range(data[0])) != data:
         return 14
+    if record(diagram) != data:
+        return 22
     return diagram
+
+
+def read_back_by_all(diagram):
+    """Each layout of the diagram with the answer to it. All of them are "well laid out": 22 for each that "isn't the smallest of its
+    renumberings". Slow beyond six nodes."""
+    nodes, edges = diagram
+    layouts = dict.fromkeys(laid_out(nodes, edges, order) for order in itertools.permutations(range(len(nodes))))
+    smallest = min(layouts)
+    return {data: counted(diagram if data == smallest else 22) for data in layouts}
+
+
+def bad_field(data):
+    """K5's list of what 14 means, field by field: "a bad count, kind, bits, fraction or filler". The first that 370 bytes have, or None."""
+    count = data[0]
+    if count > model.MOST_NODES:
+        return "count"
+    for i in range(count):
+        kind, bits = struct.unpack_from(">BQ", data, node_at(i))
+        if kind not in KIND_NAMES:
+            return "kind"
+        if bits % 2 ** 63 > INFINITE or kind == KINDS["o"] and bits != 0:       # without its sign a nan lies above infinity
+            return "bits"
+    for i, j in itertools.combinations(range(count), 2):
+        num, den = struct.unpack_from(">II", data, pair_at(i, j))
+        if not 0 < den < num or math.gcd(num, den) != 1:
+            return "fraction"
+    if any(data[node_at(count):node_at(model.MOST_NODES)]) or any(data[pair_at(0, count):]):
+        return "filler"
+    return None
 
 
 def spelled(data):
@@ -240,12 +276,13 @@ def main(mode="check"):
     import filing_corpus                                                    # imports this file
 
     tally = collections.Counter(differ=0)
-    for things, found in {"records": filing_corpus.twice(), "numberings": filing_corpus.numbered_twice()}.items():
+    ways = {"records": filing_corpus.twice(), "numberings": filing_corpus.numbered_twice(), "readings": filing_corpus.read_twice()}
+    for things, found in ways.items():
         for what, left, right in found:
             tally[f"{things} found in two ways"] += 1
             if left != right:
                 tally["differ"] += 1
-                print(f"{what!r}\n    {bytes(left).hex()}\n    {bytes(right).hex()}")
+                print(f"{what!r}\n    {shown(left)}\n    {shown(right)}")
 
     lines, answers = [], []
     for line, expected in filing_corpus.corpus():
@@ -260,6 +297,10 @@ def main(mode="check"):
 
     stored.settle(STORED, mode, lines, answers, tally)
     stored.close(tally)
+
+
+def shown(found):
+    return found.hex() if isinstance(found, bytes) else found
 
 
 def sort(line, answer):

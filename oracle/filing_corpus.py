@@ -1,10 +1,12 @@
-"""The lines for crates/replay_filing, small enough for one run of a program that reads 65,536 bytes; filing.py has their forms.
+"""The lines for crates/replay_filing, small enough for one run of a program that reads 131,072 bytes; filing.py has their forms.
 
 Where it is known beforehand how an answer begins, the line comes with that beginning.
 """
 
 import collections
 import itertools
+import math
+import sys
 
 import chance
 import corpus as reading
@@ -12,10 +14,11 @@ import figures
 import filing
 import model
 
-MOST = 65500
+MOST = 131000
 SAME, SAME_BY_CHANCE, SAME_LARGE, NEAR, NEAR_LARGE, SWITCHED = 150, 16, 70, 150, 54, 35
-MISPLACED, MISPLACED_LARGE, RELABELLED, RELABELLED_LARGE, DAMAGED = 20, 15, 25, 45, 223
+MISPLACED, MISPLACED_LARGE, RELABELLED, RELABELLED_LARGE, DAMAGED, RENUMBERED_LARGE = 20, 15, 25, 45, 223, 16
 X = ("x", 1.0)
+NINE = "x3" * 8 + "x"
 
 # "`x4o` and `o4x` file as 02, 01 and eight 00, 02 3F F0 and six 00, 63 zeros, 00 00 00 04 00 00 00 01, 280 zeros."
 X4O = "02" + "01" + "00" * 8 + "023ff0" + "00" * 6 + "00" * 63 + "0000000400000001" + "00" * 280
@@ -30,7 +33,8 @@ def corpus():
     dice = chance.Dice(3)
     lines = [*document_01(), *texts(dice), *shared_doubles(dice), *same(dice), *near(dice), *graphs(dice), *trees(dice),
              *buffers(), *lengths(), *fields_out_of_range(), *fields_in_range(), *misplaced(dice), *relabelled(dice), *damaged(dice),
-             *symmetric_texts(dice), *unreduced()]
+             *symmetric_texts(dice), *unreduced(), *renumberings(), *odd_lengths(), *moved(), *renumbered_large(dice),
+             *misnumbered_and_damaged()]
     lines = {line if isinstance(line, bytes) else line.encode(): expected for line, expected in lines}
     assert not any(b"\n" in line or line.count(b"|") > 1 for line in lines)
     assert sum(len(line) + 1 for line in lines) <= MOST
@@ -65,6 +69,29 @@ def numbered_twice():
         few = max(len(nodes) - 7, 0)
         figure = figures.renumbered(nodes, edges, [*range(few), *figures.shuffled(dice, range(few, len(nodes)))])
         yield figure, filing.first(figure), filing.first_by_all(figure)
+
+
+def read_twice():
+    """What bytes are, and two answers to them that must be equal: by reading back and by the second ways of filing.py. They are all layouts
+    of small figures, then layouts in any order with a byte or two changed, of which both ways say whether they are 14."""
+    dice = chance.Dice(7)
+    for _ in range(150):
+        for data, expected in filing.read_back_by_all(figures.by_chance(dice, 0, 5)).items():
+            yield data.hex(), filing.counted(filing.read_back(data)), expected
+    for _ in range(3000):
+        nodes, edges = figures.by_chance(dice, 0, 9)
+        data = bytearray(filing.laid_out(nodes, edges, figures.shuffled(dice, range(len(nodes)))))
+        for _ in range(1 + dice.below(2)):
+            at, value = damage(dice, data)
+            data[at] = value
+        yield data.hex(), filing.read_back(bytes(data)) == 14, filing.bad_field(data) is not None
+
+
+def begins(data):
+    """How the answer to 370 bytes begins, by the second ways of filing.py. Of seven nodes and more, well laid out, that it is not 14."""
+    if filing.bad_field(data):
+        return "no 14"
+    return filing.read_back_by_all(filing.spelled(data))[data] if data[0] <= 6 else ("ok ", "no 22")
 
 
 def document_01():
@@ -142,10 +169,10 @@ def unreduced():
         yield line, "apart"
 
 
-def large(dice):
-    """A figure by chance of eight or nine nodes, much alike; few edges keep its texts short."""
+def large(dice, least=8):
+    """A figure by chance of eight or nine nodes, or fewer at least, much alike; few edges keep its texts short."""
     while True:
-        nodes, edges = figures.by_chance(dice, 8, 9)
+        nodes, edges = figures.by_chance(dice, least, 9)
         if len(edges) < 12:
             return nodes, edges
 
@@ -280,36 +307,80 @@ def lengths():
 
 def put(text, *fields):
     """The line that changes the text's record, for each offset and hexadecimal digits, from there on; bytes that it has are left out."""
-    data, groups = filing.record_of(text.encode()), ""
+    data = filing.record_of(text.encode())
+    wanted = bytearray(data)
     for at, digits in fields:
-        groups += "".join(f"{i:03x}{byte:02x}" for i, byte in enumerate(bytes.fromhex(digits), at) if byte != data[i])
+        wanted[at:at + len(digits) // 2] = bytes.fromhex(digits)
+    groups = "".join(f"{at:03x}{byte:02x}" for at, byte in enumerate(wanted) if byte != data[at])
     assert groups
     return f"{text}|!{groups}"
 
 
+def terms(num, den):
+    """A fraction's digits."""
+    return f"{num:08x}{den:08x}"
+
+
 def fields_out_of_range():
-    """One field of a record changed so that no diagram has it, fields of places past the nodes included."""
-    nine, first, last = "x3" * 8 + "x", filing.node_at(0), filing.node_at(8)
-    changes = [(text, 0, count) for text in ["x4o", "*a", nine] for count in ["0a", "10", "7f", "80", "ff"]]
-    changes += [("x4o", 0, count) for count in ["00", "01", "03", "09"]] + [("*a", 0, "01"), ("*a", 0, "09"), (nine, 0, "08")]
-    for kind in ["00", "04", "05", "82", "ff"]:
-        changes += [("x", first, kind), ("x4o", first, kind), ("x4o", filing.node_at(1), kind), (nine, last, kind)]
-    changes += [(text, at, value) for text, at in [("o", 2), ("x4o", 2), ("o" * 9, last + 1)]
-                for value in ["80", "0000000000000001", "3ff0", "7ff8"]]                    # unringed, with bits
-    changes += [("x", first, "01"), (nine, last, "01"), ("s", first, "01")]
-    for nan in ["7ff8000000000000", "fff8000000000000", "7ff0000000000001", "fff0000000000001", "7ff4000000000000", "7fffffffffffffff",
-                "ffffffffffffffff", "7ff0000100000000"]:
-        changes += [("x", 2, nan), ("s", 2, nan), ("x4o", filing.node_at(1) + 1, nan)]
+    """One field of a record changed so that no diagram has it in any numbering: "a bad count, kind, bits, fraction or filler"."""
+    for text, *field in dict.fromkeys([*bad_counts(), *bad_kinds(), *bad_bits(), *bad_fractions(), *bad_fillers()]):
+        yield put(text, field), "no 14"
+
+
+def bad_counts():
+    """Above nine, and others than the nodes that follow."""
+    for text, nodes in {"*a": 0, "x": 1, "x4o": 2, "x3o5s": 3, NINE[2:]: 8, NINE: 9}.items():
+        counts = {10, 16, 127, 128, 255, nodes + 1} | ({nodes - 1} if nodes else set())
+        yield from ((text, 0, f"{count:02x}") for count in sorted(counts))
+    yield from [("x4o", 0, "00"), ("x4o", 0, "09"), ("*a", 0, "09")]
+
+
+def bad_kinds():
+    """None of 1, 2, 3."""
+    places = [("x", 0), ("o", 0), ("s", 0), ("x4o", 0), ("x4o", 1), ("x3o5s", 1), (NINE, 8)]
+    yield from ((text, filing.node_at(i), kind) for text, i in places for kind in ["00", "04", "05", "82", "ff"])
+    yield from (("x" * 9, filing.node_at(i), kind) for i in range(9) for kind in ["00", "04"])
+
+
+def bad_bits():
+    """Unringed with bits, each byte alone among them; nan, each bit alone that makes one among them."""
+    alone = ["00" * at + "01" for at in range(8)]
+    for text, i in [("o", 0), ("x4o", 0), ("ooo", 1), ("o" * 9, 8)]:
+        yield from ((text, filing.node_at(i) + 1, bits) for bits in ["80", "3ff0", "7ff8", *alone])
+    yield from ((text, filing.node_at(i), "01") for text, i in [("x", 0), ("s", 0), (NINE, 8)])
+
+    for text, infinite in {"x": filing.INFINITE, "s": filing.INFINITE | 1 << 63}.items():
+        yield from ((text, 2, f"{infinite | 1 << bit:016x}") for bit in range(52))
+    places = [("x", 0), ("s", 0), ("x4o", 1), ("xx", 0), ("xx", 1), ("s3s4s", 1)]
+    nans = ["7ff8000000000000", "fff8000000000000", "7ff8000000000001", "fff8000000000001", "7ff0000000000001", "fff0000000000001",
+            "7ff4000000000000", "7ff7ffffffffffff", "fff7ffffffffffff", "7fffffffffffffff", "ffffffffffffffff", "7ff0000100000000"]
+    yield from ((text, filing.node_at(i) + 1, nan) for text, i in places for nan in nans)
+    yield from (("x" * 9, filing.node_at(i) + 1, nan) for i in range(9) for nan in ["7ff8000000000000", "fff0000000000001"])
+
+
+def bad_fractions():
+    """Not in lowest terms, 4/2 for 2/1 among them; num not above den; zeros. Of joined and unjoined nodes, then of every pair of nine."""
     for num, den in [(4, 0), (4, 4), (4, 5), (4, 2 ** 32 - 1), (6, 2), (4, 2), (9, 3), (6, 4), (0, 1), (0, 0), (1, 1), (1, 0), (2, 2),
                      (2, 0), (2 ** 32 - 1, 2 ** 32 - 1), (2 ** 32 - 2, 2 ** 31 - 1), (2 ** 32 - 1, (2 ** 32 - 1) // 3),
-                     (2 ** 31, 2 ** 30), (2 ** 32 - 2, 2), (3, 4), (2, 4)]:
-        changes += [("x4o", filing.pair_at(0, 1), f"{num:08x}{den:08x}"), ("xooo", filing.pair_at(2, 3), f"{num:08x}{den:08x}")]
-    changes += [("*a", at, "01") for at in [1, 2, 9, 10, 81, 82, 89, 369]]                  # fillers of nodes and of pairs
-    changes += [("x4o", at, value) for at in [19, 20, 27, 28, 50, 81, 90, 93, 97, 98, 200, 362, 369] for value in ["01", "80"]]
-    changes += [(nine[2:], at, "ff") for at in [73, 74, 81, 306, 309, 313, 369]]
-    changes += [("x", 82, "0000000200000001"), ("x4o", filing.pair_at(0, 2), "0000000200000001")]
-    for change in dict.fromkeys(changes):
-        yield put(change[0], change[1:]), "no 14"
+                     (2 ** 31, 2 ** 30), (2 ** 32 - 2, 2), (3, 4), (2, 4), (10, 4), (15, 10), (25, 10), (14, 4), (49, 21), (6, 3), (3, 3),
+                     (1, 2), (0, 2), (0, 2 ** 32 - 1), (2 ** 32 - 1, 0), (3 * 2 ** 30, 2 ** 30), (3 * 65537, 65537), (65535 ** 2, 65535)]:
+        yield from ((text, filing.pair_at(*pair), terms(num, den)) for text, pair in [("x4o", (0, 1)), ("xooo", (2, 3))])
+    several = itertools.cycle([(0, 0), (2, 0), (0, 1), (2, 2), (6, 2)])
+    for pair, bad in zip(itertools.combinations(range(9), 2), several):
+        yield from (("x" * 9, filing.pair_at(*pair), terms(*fraction)) for fraction in [(4, 2), bad])
+
+
+def bad_fillers():
+    """Where there are no nodes every byte but the count. Else, of the first and the last unused place of nodes and of pairs, each field's
+    first and last byte; and what an unused place would hold if it were used."""
+    yield from (("*a", at, "01") for at in range(1, filing.LENGTH))
+    for text, count in {"x": 1, "x4o": 2, "x3o5s": 3, NINE[2:]: 8}.items():
+        nodes, pairs = {filing.node_at(count), filing.node_at(8)}, {filing.pair_at(0, count), filing.pair_at(7, 8)}
+        yield from ((text, node + at, "01") for node in sorted(nodes) for at in [0, 1, 8])
+        yield from ((text, pair + at, "01") for pair in sorted(pairs) for at in [0, 3, 4, 7])
+    yield from (("x4o", at, value) for at in [19, 20, 27, 28, 50, 81, 90, 93, 97, 98, 200, 362, 369] for value in ["01", "80"])
+    yield from ((NINE[2:], at, "ff") for at in [73, 74, 81, 306, 309, 313, 369])
+    yield from [("x", filing.pair_at(0, 1), terms(2, 1)), ("x4o", filing.pair_at(0, 2), terms(2, 1))]
 
 
 def fields_in_range():
@@ -320,16 +391,18 @@ def fields_in_range():
         yield from ((put(text, (2, double)), "ok 1 0") for text in ["x", "s"])
         yield put("x4o", (filing.node_at(1) + 1, double)), "ok 2 1"
         above = double > "3ff0000000000000"
-        yield put("x3x", (filing.node_at(0) + 1, double)), "no 14" if above else "ok 2 1"
-        yield put("x3x", (filing.node_at(1) + 1, double)), "ok 2 1" if above else "no 14"
+        yield put("x3x", (filing.node_at(0) + 1, double)), "no 22" if above else "ok 2 1"
+        yield put("x3x", (filing.node_at(1) + 1, double)), "ok 2 1" if above else "no 22"
     for text, kind in [("o", "02"), ("o", "03"), ("x", "03"), ("s", "02"), ("x", "010000"), ("s", "010000")]:
         yield put(text, (1, kind)), "ok 1 0"
     for num, den in [(3, 1), (3, 2), (5, 2), (5, 3), (4, 3), (2 ** 32 - 1, 1), (2 ** 32 - 1, 2 ** 32 - 2), (2 ** 31, 1),
                      (2 ** 31 + 1, 2 ** 31), (2 ** 31 - 1, 2), (2 ** 32 - 1, 2 ** 31), (256, 255)]:
-        yield put("x4o", (filing.pair_at(0, 1), f"{num:08x}{den:08x}")), "ok 2 1"
-        yield put("xooo", (filing.pair_at(2, 3), f"{num:08x}{den:08x}")), "ok 4 1"          # the x is last, and the o that it is joined to
-        yield put("xooo", (filing.pair_at(0, 1), f"{num:08x}{den:08x}")), "no 14"           # two joined o of three come after the third
-    yield put("x4o", (filing.pair_at(0, 1), "0000000200000001")), "ok 2 0"
+        yield put("x4o", (filing.pair_at(0, 1), terms(num, den))), "ok 2 1"
+        yield put("xooo", (filing.pair_at(2, 3), terms(num, den))), "ok 4 1"              # the x is last, and the o that it is joined to
+        yield put("xooo", (filing.pair_at(0, 1), terms(num, den))), "no 22"               # two joined o of three come after the third
+    yield put("x4o", (filing.pair_at(0, 1), terms(2, 1))), "ok 2 0"
+    yield put("x", (0, "02"), (filing.node_at(1), "023ff0"), (filing.pair_at(0, 1), terms(2, 1))), "ok 2 0"
+    yield put("x4o", (0, "01"), (filing.node_at(1), "000000"), (filing.pair_at(0, 1), terms(0, 0))), "ok 1 0"
 
 
 def misplaced(dice):
@@ -338,13 +411,89 @@ def misplaced(dice):
               b"x3x3x x", b"o3o4o3o", b"x3x3x4x", b"(0)3(-0)", b"x3(1.5)", b"x5/2x5/3x"]
     drawn = [figures.by_chance(dice, 2, 6) for _ in range(MISPLACED)] + [large(dice) for _ in range(MISPLACED_LARGE)]
     for text in listed + [figures.respelled(dice, figure) for figure in drawn]:
-        nodes, edges = filing.read_back(filing.record_of(text))
-        for i, j in some(dice, itertools.combinations(range(len(nodes)), 2), 2):
-            order = list(range(len(nodes)))
+        count = filing.record_of(text)[0]
+        for i, j in some(dice, itertools.combinations(range(count), 2), 2):
+            order = list(range(count))
             order[i], order[j] = j, i
-            data = filing.laid_out(nodes, edges, order)
-            if data != filing.record_of(text):
-                yield put(text.decode(), (0, data.hex())), "no 14"
+            yield from laid_otherwise(text, order)
+
+
+def laid_otherwise(text, order):
+    """The line that lays the diagram of a text's record out in another order, unless that is the record."""
+    data = filing.record_of(text)
+    other = filing.laid_out(*filing.spelled(data), order)
+    if other != data:
+        yield put(text.decode(), (0, other.hex())), "no 22"
+
+
+def renumbered_large(dice):
+    """Figures of seven to nine nodes in any order."""
+    lines = []
+    while len(lines) < RENUMBERED_LARGE:
+        nodes, edges = large(dice, 7)
+        lines += laid_otherwise(figures.respelled(dice, (nodes, edges)), figures.shuffled(dice, range(len(nodes))))
+    return lines
+
+
+def renumberings():
+    """Every layout of small figures: chains, forks, cycles, unjoined nodes, alike and different ones."""
+    for text in ["x3o", "x5/2s", "o(-0)", "(-1)3x",
+                 "oxs", "x3xx", "x3o3x", "x3x4x", "x4o3o", "s3x5/2o", "x3x4x5*a", "x3o5/2o3*a", "(0)3(-0)4(inf)",
+                 "x3xxx", "x3xx3x", "x3xx4x", "x3x3x3x", "x3x4x3x", "x5/2x5/3x5x", "s3x3x3s", "o3o3o5o", "x3x3x *b3x", "x3x4x *b5s",
+                 "x3x3x3x3*a", "x3x4x5x6*a", "x3x3x3*a3x", "xs3os", "x3s4x4s3*a", "(0)3(-0)s4x",
+                 "x3x3x3x4x", "x3s3x4x5/2s"]:
+        yield from readings(text, model.read(text.encode(), wish=True))
+
+
+def readings(text, figure):
+    """The lines that make of a text's record each layout of the figure, but for the record itself."""
+    data = filing.record_of(text.encode())
+    for other, expected in filing.read_back_by_all(figure).items():
+        if other != data:
+            yield put(text, (0, other.hex())), expected
+
+
+def odd_lengths():
+    """-0.0, infinities and the ends of the subnormals, few of which a text can spell: sound, in the order of their bits and in others."""
+    most, least = sys.float_info.max, sys.float_info.min
+    below = least - 5e-324
+    rising = [0.0, 5e-324, below, least, most, math.inf, -0.0, -5e-324, -below, -least, -most, -math.inf]
+    for two in zip(rising, rising[1:]):
+        yield from readings("(0)3(0)", ([("x", length) for length in two], [(0, 1, (3, 1))]))
+    yield from readings("s4s", ([("s", -0.0), ("s", math.inf)], [(0, 1, (4, 1))]))
+    yield from readings("(0)5/2s", ([("x", -math.inf), ("s", 0.0)], [(0, 1, (5, 2))]))
+    for three in [(-0.0, 0.0, 5e-324), (math.inf, -math.inf, -5e-324), (0.0, -0.0, 0.0)]:
+        yield from readings("(0)3(0)4(0)", ([("x", length) for length in three], [(0, 1, (3, 1)), (1, 2, (4, 1))]))
+
+
+def moved():
+    """Of nine nodes one is a snub, or two are joined: the record has these last, and here they stand at each other place."""
+    for i in range(8):
+        yield put("x" * 8 + "s", (filing.node_at(8), "02"), (filing.node_at(i), "03")), "no 22"
+    for pair in itertools.combinations(range(9), 2):
+        if pair != (7, 8):
+            yield put("x" * 8 + "3x", (filing.pair_at(7, 8), terms(2, 1)), (filing.pair_at(*pair), terms(3, 1))), "no 22"
+
+
+def misnumbered_and_damaged():
+    """Layouts in reverse with one field damaged: 14, since 22 is "tested after 14"."""
+    for text in ["x3o", "xs", "x3x4x", "s5/2xo", "x3x4x *b5s", "o3o3o5o", "x3x3o3x3x *b3o", "x3" * 8 + "s"]:
+        data = filing.record_of(text.encode())
+        reverse = filing.laid_out(*filing.spelled(data), range(data[0])[::-1])
+        assert reverse != data
+        yield from ((put(text, (0, reverse.hex()), field), "no 14") for field in damages(reverse))
+
+
+def damages(data):
+    """Fields of a layout of two nodes and more, each made a bad one: its offset and digits."""
+    count, last = data[0], data[0] - 1
+    yield from ((0, f"{bad:02x}") for bad in [last, count + 1, 255])
+    yield from [(filing.node_at(0), "00"), (filing.node_at(last), "04")]
+    yield filing.node_at(0) + 1, "0000000000000001" if data[1] == filing.KINDS["o"] else "7ff8000000000000"
+    yield from ((filing.pair_at(0, 1), terms(*bad)) for bad in [(4, 2), (3, 0)])
+    yield from ((filing.pair_at(last - 1, last), terms(*bad)) for bad in [(6, 2), (0, 0)])
+    if count < model.MOST_NODES:
+        yield from ((at, "01") for at in [filing.node_at(count), 81, filing.pair_at(0, count), 369])
 
 
 def relabelled(dice):
@@ -354,9 +503,10 @@ def relabelled(dice):
         text = figures.respelled(dice, (nodes, edges)).decode()
         i, j = dice.pick(list(itertools.combinations(range(len(nodes)), 2)))
         at = filing.pair_at(i, j)
-        now = filing.record_of(text.encode())[at:at + 8].hex()
-        labels = ["0000000200000001", "0000000300000001", "0000000500000003"]
-        yield put(text, (at, dice.pick([label for label in labels if label != now]))), ""
+        data = filing.record_of(text.encode())
+        labels = [terms(2, 1), terms(3, 1), terms(5, 3)]
+        label = dice.pick([label for label in labels if label != data[at:at + 8].hex()])
+        yield put(text, (at, label)), begins(data[:at] + bytes.fromhex(label) + data[at + 8:])
 
 
 def damaged(dice):
@@ -367,10 +517,15 @@ def damaged(dice):
         if not accepted(text):
             continue
         data = filing.record_of(text)
-        count = data[0]
-        used = [0, *range(1, filing.node_at(count)), *range(82, filing.pair_at(0, count))]
-        at = dice.pick(used) if dice.below(4) else dice.below(filing.LENGTH)
-        value = dice.pick([data[at] + 1, data[at] - 1, data[at] ^ 1 << dice.below(8), dice.below(256)]) % 256
+        at, value = damage(dice, data)
         if value != data[at]:
             found += 1
-            yield text + f"|!{at:03x}{value:02x}".encode(), ""
+            yield text + f"|!{at:03x}{value:02x}".encode(), begins(data[:at] + bytes([value]) + data[at + 1:])
+
+
+def damage(dice, data):
+    """An offset, mostly where a node or a pair has its place, and a byte for it, at times the one that it has."""
+    count = min(data[0], model.MOST_NODES)
+    used = [0, *range(1, filing.node_at(count)), *range(82, filing.pair_at(0, count))]
+    at = dice.pick(used) if dice.below(4) else dice.below(filing.LENGTH)
+    return at, dice.pick([data[at] + 1, data[at] - 1, data[at] ^ 1 << dice.below(8), dice.below(256)]) % 256

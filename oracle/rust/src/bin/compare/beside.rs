@@ -12,7 +12,7 @@ use miratope::{
 use crate::{
     dice::mix,
     expected::{self, Reading},
-    figures::{Figure, RECORD},
+    figures::{Figure, ReadBack, RECORD},
     port::{bits, short, Asked, Asking, Call, Port, Want, SPARE, SQUARE, WISHES},
     records,
     run::{self, Tally, Work},
@@ -247,8 +247,9 @@ impl Beside<'_> {
             return Ok(());
         }
         tally.count(RECORDS);
-        let (bytes, _) = records::written(&mut self.port, asking, &Figure::of(cd), window)?;
-        records::read_back(&mut self.port, &bytes, window)?;
+        let figure = Figure::of(cd);
+        let (bytes, numbering) = records::written(&mut self.port, asking, &figure, window)?;
+        records::read_as(&mut self.port, &bytes, &ReadBack::Record(figure.renumbered(&numbering)), window)?;
         match short(RECORD, window) {
             Some(len) => self.no_record(asking, len, [12, 0, 0, 0], window),
             None => Ok(()),

@@ -1,5 +1,5 @@
-//! Figures: what a filing record tells of a diagram. Document 01's layout, the smallest numbering and sameness, and ticket
-//! K9's first of the smallest, written from their words and apart from the port.
+//! Figures: what a filing record tells of a diagram. Document 01's layout, the smallest numbering and sameness, ticket K9's
+//! first of the smallest, and what ticket K5 says of reading a record, written from their words and apart from the port.
 
 use std::cmp::Ordering;
 
@@ -24,6 +24,26 @@ pub struct Figure {
     pub count: usize,
     nodes: [Place; LIMIT],
     pairs: [[Fraction; LIMIT]; LIMIT],
+}
+
+/// What reading 370 bytes comes to, by ticket K5.
+pub enum ReadBack {
+    /// The record of the figure, in the record's numbering.
+    Record(Figure),
+    /// 14: "the bytes are not what the filing section lays out for any diagram in any numbering".
+    NoLayout,
+    /// 22: "a well laid out record that isn't the smallest of its renumberings", "tested after 14".
+    NotSmallest,
+}
+
+impl ReadBack {
+    pub fn of(bytes: &[u8; RECORD]) -> Self {
+        match Figure::laid_out(bytes) {
+            None => Self::NoLayout,
+            Some(figure) if figure.renumbered(&figure.first_smallest()).layout() != *bytes => Self::NotSmallest,
+            Some(figure) => Self::Record(figure),
+        }
+    }
 }
 
 impl Figure {
@@ -108,8 +128,9 @@ impl Figure {
         bytes
     }
 
-    /// The figure that a record tells, in the record's numbering; `None` if no diagram has the bytes.
-    pub fn recorded(bytes: &[u8; RECORD]) -> Option<Self> {
+    /// The figure that has the bytes for its layout in its own numbering. `None` if none has: then no diagram has them in any
+    /// numbering, for the figure that they spell would have them in its own.
+    pub fn laid_out(bytes: &[u8; RECORD]) -> Option<Self> {
         let count = usize::from(bytes[0]);
         if count > LIMIT {
             return None;
@@ -132,8 +153,8 @@ impl Figure {
             }
             figure.join(i, j, Fraction { num, den }.lowest());
         }
-        // What the fields do not tell (fillers, terms not lowest) and a smaller numbering both show here.
-        (figure.renumbered(&figure.first_smallest()).layout() == *bytes).then_some(figure)
+        // What the fields do not tell shows here: fillers, terms not lowest, bits of an unringed node.
+        (figure.layout() == *bytes).then_some(figure)
     }
 
     /// Of the numberings whose layout is the smallest the first, "comparing the list of old nodes in new order as numbers

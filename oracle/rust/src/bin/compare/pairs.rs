@@ -1,7 +1,8 @@
 //! `compare pairs`: records at scale. Two spellings of a figure, one of them read with the wish for infinite lengths and the
 //! other without it where no length is infinite, must get one record, and numberings that tell which node is which; a figure
-//! changed in one place another, unless it is the same renumbered; a record must be read back to its figure; a changed record
-//! must be refused, unless it is that of another figure.
+//! changed in one place another, unless it is the same renumbered; a record must be read back to its figure. Ticket K5: the
+//! figure laid out in another numbering must be refused with 22; with a byte changed, so that it is no layout, with 14; and a
+//! record with a byte changed with either, unless it is that of another figure.
 
 use std::process::ExitCode;
 
@@ -10,7 +11,7 @@ use miratope::diagrams::LIMIT;
 use crate::{
     chance,
     dice::Dice,
-    figures::{Figure, Numbering, PLAIN, RECORD},
+    figures::{Figure, Numbering, ReadBack, PLAIN, RECORD},
     port::{Asking, Call, Port, Want, WISHES},
     records,
     run::{self, Tally, Work},
@@ -22,19 +23,27 @@ const SPELLED: usize = 0;
 const SAME: usize = 10;
 const APART: usize = 11;
 const DAMAGED_READ: usize = 12;
-const DAMAGED_REFUSED: usize = 13;
-const WRONG_LENGTH: usize = 14;
-const TOO_LONG: usize = 15;
-const WITH_AND_WITHOUT: usize = 16;
-const INFINITE: usize = 17;
+const DAMAGED_NO_LAYOUT: usize = 13;
+const DAMAGED_NOT_SMALLEST: usize = 14;
+const RENUMBERED_READ: usize = 15;
+const RENUMBERED_NOT_SMALLEST: usize = 16;
+const RENUMBERED_AND_DAMAGED: usize = 17;
+const WRONG_LENGTH: usize = 18;
+const TOO_LONG: usize = 19;
+const WITH_AND_WITHOUT: usize = 20;
+const INFINITE: usize = 21;
 
 fn labels() -> Vec<String> {
     let mut labels: Vec<String> =
         (0..=LIMIT).map(|nodes| format!("figures of {nodes} nodes in two spellings")).collect();
     labels.push("changed in one place, yet the same renumbered".into());
     labels.push("changed in one place, filed apart".into());
-    labels.push("records changed in a byte or in the numbering, yet records".into());
-    labels.push("records changed in a byte or in the numbering, refused with 14".into());
+    labels.push("records changed in a byte, yet records, read back".into());
+    labels.push("records changed in a byte, refused with 14".into());
+    labels.push("records changed in a byte, refused with 22".into());
+    labels.push("figures laid out in a numbering by chance, yet the record, read back".into());
+    labels.push("figures laid out in another numbering, refused with 22".into());
+    labels.push("figures laid out in another numbering and changed in a byte, refused with 14".into());
     labels.push("records of another length, refused with 13".into());
     labels.push("changed in one place, too long to write".into());
     labels.push("figures in two spellings, one read with the wish and one without".into());
@@ -80,10 +89,10 @@ impl Work for Pairs {
         if figure.count > 0 {
             self.changed(dice, &figure, &bytes, tally)?;
         }
-        if !records::read_back(&mut self.port, &bytes, dice.next() as usize)? {
-            return Err(format!("figures.rs does not read {} back", records::shown(&bytes)));
-        }
-        self.damaged(dice, &figure, bytes, tally)
+        let own = filed.figure.renumbered(&filed.numbering);
+        records::read_as(&mut self.port, &bytes, &ReadBack::Record(own), dice.next() as usize)?;
+        self.damaged(dice, bytes, tally)?;
+        self.renumbered(dice, &figure, &bytes, tally)
     }
 
     fn name(&mut self, index: u64) -> String {
@@ -178,32 +187,68 @@ impl Pairs {
         Ok(())
     }
 
-    /// Bytes that are no record, or another's: one byte changed, or the figure laid out in any numbering.
-    fn damaged(
+    /// A record with one byte changed: no layout, or not the smallest, or another's record.
+    fn damaged(&mut self, dice: &mut Dice, mut bytes: [u8; RECORD], tally: &mut Tally) -> Result<(), String> {
+        damage(dice, &mut bytes);
+        let back = ReadBack::of(&bytes);
+        tally.count(match back {
+            ReadBack::Record(_) => DAMAGED_READ,
+            ReadBack::NoLayout => DAMAGED_NO_LAYOUT,
+            ReadBack::NotSmallest => DAMAGED_NOT_SMALLEST,
+        });
+        records::read_as(&mut self.port, &bytes, &back, dice.next() as usize)?;
+        self.of_another_length(dice, &bytes, tally)
+    }
+
+    /// The figure laid out in a numbering by chance: 22 unless that is the record. Of some also with one byte changed so that no
+    /// diagram has it: 14, which is tested first.
+    fn renumbered(
         &mut self,
         dice: &mut Dice,
         figure: &Figure,
-        mut bytes: [u8; RECORD],
+        record: &[u8; RECORD],
         tally: &mut Tally,
     ) -> Result<(), String> {
-        if dice.one_in(8) {
-            let mut numbering = PLAIN;
-            dice.shuffle(&mut numbering[..figure.count]);
-            bytes = figure.renumbered(&numbering).layout();
-        } else {
-            damage(dice, &mut bytes);
+        let mut numbering = PLAIN;
+        dice.shuffle(&mut numbering[..figure.count]);
+        let other = figure.renumbered(&numbering);
+        let bytes = other.layout();
+        if bytes == *record {
+            tally.count(RENUMBERED_READ);
+            return records::read_as(&mut self.port, &bytes, &ReadBack::Record(other), dice.next() as usize);
         }
-        let window = dice.next() as usize;
-        let read = records::read_back(&mut self.port, &bytes, window)?;
-        tally.count(if read { DAMAGED_READ } else { DAMAGED_REFUSED });
-        if dice.one_in(16) {
-            let long = [&bytes[..], &[0; 30]].concat();
-            let any = dice.below(RECORD);
-            let len = dice.pick(&[0, 1, RECORD - 1, RECORD + 1, RECORD + 30, any]);
-            tally.count(WRONG_LENGTH);
-            self.port.check(Call::ReadRecord(&long[..len]), Want { answer: [13, 0, 0, 0], out: &[] }, window)?;
+        tally.count(RENUMBERED_NOT_SMALLEST);
+        records::read_as(&mut self.port, &bytes, &ReadBack::NotSmallest, dice.next() as usize)?;
+        if dice.one_in(4) {
+            tally.count(RENUMBERED_AND_DAMAGED);
+            let bytes = no_layout(dice, &bytes);
+            records::read_as(&mut self.port, &bytes, &ReadBack::NoLayout, dice.next() as usize)?;
         }
-        Ok(())
+        self.of_another_length(dice, &bytes, tally)
+    }
+
+    /// Of some bytes, whatever they are: cut off, or with zeros behind them.
+    fn of_another_length(&mut self, dice: &mut Dice, bytes: &[u8; RECORD], tally: &mut Tally) -> Result<(), String> {
+        if !dice.one_in(32) {
+            return Ok(());
+        }
+        let long = [&bytes[..], &[0; 30]].concat();
+        let any = dice.below(RECORD);
+        let len = dice.pick(&[0, 1, RECORD - 1, RECORD + 1, RECORD + 30, any]);
+        tally.count(WRONG_LENGTH);
+        let want = Want { answer: [13, 0, 0, 0], out: &[] };
+        self.port.check(Call::ReadRecord(&long[..len]), want, dice.next() as usize)
+    }
+}
+
+/// One byte of a layout of two nodes or more changed so that no diagram has it in any numbering.
+fn no_layout(dice: &mut Dice, layout: &[u8; RECORD]) -> [u8; RECORD] {
+    loop {
+        let mut bytes = *layout;
+        damage(dice, &mut bytes);
+        if Figure::laid_out(&bytes).is_none() {
+            return bytes;
+        }
     }
 }
 

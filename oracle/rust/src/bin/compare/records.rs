@@ -1,7 +1,7 @@
 //! The calls about records, compared with figures.rs.
 
 use crate::{
-    figures::{Figure, Numbering, RECORD},
+    figures::{Figure, Numbering, ReadBack, RECORD},
     port::{Asked, Asking, Call, Port, Want, SPARE},
 };
 
@@ -38,19 +38,19 @@ pub fn refused(port: &mut Port, asked: Asked, len: usize, answer: [usize; 4], wi
     fault.map_or(Ok(()), |what| Err(format!("lexicon_write_record, wish {}, {len} bytes lent: {what}", asked.wish)))
 }
 
-/// Bytes read back: the figure that they tell, in their own numbering; or 14 if no diagram has them. Answers which.
-pub fn read_back(port: &mut Port, bytes: &[u8; RECORD], window: usize) -> Result<bool, String> {
-    let figure = Figure::recorded(bytes);
-    match &figure {
-        Some(figure) => {
+/// Bytes read back: they must come to this, the record of a figure to the figure's diagram.
+pub fn read_as(port: &mut Port, bytes: &[u8; RECORD], back: &ReadBack, window: usize) -> Result<(), String> {
+    let refusal = |number| Want { answer: [number, 0, 0, 0], out: &[] };
+    let call = Call::ReadRecord(bytes);
+    match back {
+        ReadBack::Record(figure) => {
             let (diagram, edges) = figure.diagram();
-            let want = Want { answer: [0, figure.count, edges, 0], out: &diagram.0 };
-            port.check(Call::ReadRecord(bytes), want, window)
+            port.check(call, Want { answer: [0, figure.count, edges, 0], out: &diagram.0 }, window)
         }
-        None => port.check(Call::ReadRecord(bytes), Want { answer: [14, 0, 0, 0], out: &[] }, window),
+        ReadBack::NoLayout => port.check(call, refusal(14), window),
+        ReadBack::NotSmallest => port.check(call, refusal(22), window),
     }
-    .map_err(|what| format!("{what}; of {}", shown(bytes)))?;
-    Ok(figure.is_some())
+    .map_err(|what| format!("{what}; of {}", shown(bytes)))
 }
 
 /// In hexadecimal, without the zeros at the end.
