@@ -1,10 +1,10 @@
 -- Whether bytes are laid out, and whether they are a diagram's record, is decided: what they spell has finitely many nodes and pairs to look at, and its record can be
 -- found and compared. Assumes nothing.
 use mathlib.Core.Bool.{false, Bool-discrete}
-use mathlib.Core.List.{List, [], _∷_, head-eq-of-cons-eq, tail-eq-of-cons-eq}
+use mathlib.Core.List.{List, List-discrete}
 use mathlib.Core.Logic.{_≢_, Dec·and, Dec·not}
-use mathlib.Core.Path.{_≡_, refl, sym, ap, ap₂, subst}
-use Prim.Native.Nat.{ℕ, zero, suc, _^_, _≤_, _<_}
+use mathlib.Core.Path.{_≡_, ap, subst}
+use Prim.Native.Nat.{ℕ, zero, suc, _^_, _<_}
 use native.Mathlib.Decide.{ℕ-discrete, decLt, decLe, map-dec}
 use native.Mathlib.Nat.{not-suc-le-zero}
 use native.Mathlib.Omega.{arith}
@@ -35,13 +35,6 @@ below-decided P d (suc n) = go (below-decided P d n) (d n)
     go (yes a) (no b) = no (λ f. b (f n (omega arith)))
     go (no a) e = no (λ f. a (λ i h. f i (omega arith)))
 
-bytes-decided : (xs ys : List ℕ) → Dec (xs ≡ ys)
-bytes-decided [] [] = yes refl
-bytes-decided [] (y ∷ ys) = no (λ e. let z : _≡_ {A = ℕ} 0 1 = (cc) in omega arith)
-bytes-decided (x ∷ xs) [] = no (λ e. let z : _≡_ {A = ℕ} 0 1 = (cc) in omega arith)
-bytes-decided (x ∷ xs) (y ∷ ys) =
-    map-dec (λ e. ap₂ _∷_ (e .0) (e .1)) (λ e. (head-eq-of-cons-eq e, tail-eq-of-cons-eq e)) (Dec·and (ℕ-discrete x y) (bytes-decided xs ys))
-
 -- ---- which are diagrams
 
 node-decided : (v : Node) → Dec (IsNode v)
@@ -71,7 +64,7 @@ pub laid-out-decided : (N : ℕ) (l : List ℕ) → Dec (LaidOut N l)
 unfolding spelled
 laid-out-decided N l =
     map-dec (laid-out-iff N l .1) (laid-out-iff N l .0)
-    (Dec·and (diagram-decided N (spelled N l) (λ i j. ap (fractionAt l) (pairPlace-comm N i j))) (bytes-decided (layout N (spelled N l) (λ i. i)) l))
+    (Dec·and (diagram-decided N (spelled N l) (λ i j. ap (fractionAt l) (pairPlace-comm N i j))) (List-discrete ℕ-discrete (layout N (spelled N l) (λ i. i)) l))
 
 pub record-decided : (N : ℕ) (d : Diagram) (l : List ℕ) → Dec (IsRecord N d l)
-record-decided N d l = let (bs, r) = record-exists N d in map-dec (λ e. subst (IsRecord N d) e r) (record-unique r) (bytes-decided bs l)
+record-decided N d l = let (bs, r) = record-exists N d in map-dec (λ e. subst (IsRecord N d) e r) (record-unique r) (List-discrete ℕ-discrete bs l)

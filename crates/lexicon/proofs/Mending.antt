@@ -14,7 +14,7 @@ use Rattle.filing.specs.Diagrams.{Iso}
 use Rattle.filing.specs.Readable.{Readable, LaidOut, spelled}
 use Rattle.filing.specs.Records.{recordLength, IsRecord}
 use Rattle.filing.proofs.Filing.{same-record-iff-iso, record-unique}
-use Rattle.filing.proofs.Readback.{record-of-spelled, record-of-laid-out}
+use Rattle.filing.proofs.Readback.{record-of-laid-out}
 use Rattle.filing.proofs.Searching.{record-exists}
 use Rattle.parse.specs.Reading.{Accepted, read, answer}
 use Rattle.parse.specs.declared.Answer.the-variants as said

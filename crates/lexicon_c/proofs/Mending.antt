@@ -17,14 +17,14 @@ use Rattle.cd.specs.declared.CdError.the-variants.{TooLong, NotAscii, Mismatche
 use Rattle.filing.specs.Diagrams.{Iso}
 use Rattle.filing.specs.Readable.{LaidOut}
 use Rattle.filing.specs.Records.{recordLength}
-use Rattle.lent.specs.Outcomes.{Outcome, Shows, Refuses, fitted, told}
-use Rattle.lent.specs.Shown.{outcome, ofRecord}
+use Rattle.lent.specs.Outcomes.{Shows, Refuses, fitted, told}
+use Rattle.lent.specs.Shown.{outcome}
 use Rattle.lexicon.proofs.Mending as lexicon
 use Rattle.parse.specs.declared.Answer.{Answer}
 use Rattle.parse.specs.declared.Answer.the-variants as said
 use Rattle.tables.specs.Diagrams.{diagram}
 use Rattle.lexicon_c.specs.Calls.{FilesForC, ReadsRecordForC}
-use Rattle.lexicon_c.proofs.Demand3.{Filed0, returned-0}
+use Rattle.lexicon_c.proofs.Demand3.{returned-0}
 
 -- no other refusal has the number 22
 only-22 : (e : CdError) → getD (padded 0 4 (numberOf e)) 0 0 ≡ 22 → e ≡ NotSmallest

@@ -5,11 +5,8 @@ use mathlib.Core.Logic.{_≢_, _↔_}
 use mathlib.Core.Path.{_≡_, refl, sym, ap, _∙_, subst}
 use Prim.Native.Nat.{ℕ}
 use native.Mathlib.Decide.{ℕ-discrete}
-use native.Mathlib.Omega.{arith}
 use lib.ListN.{length}
 use Rattle.cd.specs.declared.CdError.the-variants.{RecordLength, NoDiagram, NotSmallest}
-use Rattle.filing.specs.Diagrams.{IsDiagram}
-use Rattle.filing.specs.Numberings.{Numbering}
 use Rattle.filing.specs.Readable.{Readable, LaidOut, spelled}
 use Rattle.filing.specs.Records.{recordLength, layout, IsRecord}
 use Rattle.filing.proofs.Filing.{record-carried}
