@@ -160,7 +160,7 @@ module _ {N : ℕ} {d e : Diagram} (wd : IsDiagram N d) (we : IsDiagram N e) whe
       (_, agree-carries we wd (rw (c .size) at (c .numbering)) (identity (d .size)) (agree-sym a))
 
   -- each layout of d is one of e
-  layout-carried : {f p : ℕ → ℕ} → Carries d e f → Numbering (d .size) p → Numbering (e .size) (λ i. f (p i)) × (layout N d p ≡ layout N e (λ i. f (p i)))
+  pub layout-carried : {f p : ℕ → ℕ} → Carries d e f → Numbering (d .size) p → Numbering (e .size) (λ i. f (p i)) × (layout N d p ≡ layout N e (λ i. f (p i)))
   layout-carried {f} {p} c np =
       let nq : Numbering (e .size) (λ i. f (p i)) = rw (c .size) at (compose (c .numbering) np) in
       (nq, layout-same N wd we np nq (carried c np))

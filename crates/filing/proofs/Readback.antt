@@ -16,10 +16,10 @@ use Rattle.filing.specs.Numberings.{Numbering}
 use Rattle.filing.specs.Readable.{Readable, LaidOut, numberAt, nodeAt, pairPlace, fractionAt, spelled}
 use Rattle.filing.specs.Records.{nodeLength, nodeBytes, pairBytes, layout, IsRecord}
 use Rattle.filing.proofs.Bytes.{length-bytes, value-bytes}
-use Rattle.filing.proofs.Filing.{carried, layout-same, iso-sym, record-carried}
+use Rattle.filing.proofs.Filing.{iso-sym, layout-carried, record-carried}
 use Rattle.filing.proofs.Gcd.{lowest-is-same, lowest-twice}
 use Rattle.filing.proofs.Layouts.{lowest-edge}
-use Rattle.filing.proofs.Numberings.{identity, compose, differ}
+use Rattle.filing.proofs.Numberings.{identity, differ}
 use Rattle.filing.proofs.Places.{Placed, placed-read, placed-whole, placed-left, placed-right, placed-in, placed-at, node-placed, pair-placed}
 
 -- ---- reading what is placed
@@ -102,7 +102,7 @@ module _ (N : ℕ) {d : Diagram} (w : IsDiagram N d) {p : ℕ → ℕ} (np : Num
   -- its layouts are d's
   read-layout : {q : ℕ → ℕ} → Numbering (d .size) q → layout N (spelled N (layout N d p)) q ≡ layout N d (λ i. p (q i))
   unfolding spelled layout
-  read-layout nq = layout-same N read-is-diagram w nq (compose np nq) (carried read-carries nq)
+  read-layout nq = layout-carried read-is-diagram w read-carries nq .1
 
 -- ---- bytes that are laid out
 

@@ -18,7 +18,7 @@ use Rattle.parse.specs.Reading.{Reading, Accepted, Refused}
 use Rattle.tables.specs.Tables.{IsKept}
 use Rattle.readback.specs.ReadBack.{ReadBack, wrong-length, no-diagram, not-smallest, record-of}
 use Rattle.readback.specs.Spelled.{nodesIn, edgesIn}
-use Rattle.readback.proofs.SpelledLaws.{readBack, spelled-is-diagram, spelled-layout, spelled-iso}
+use Rattle.readback.proofs.SpelledLaws.{readBack, spelled-is-diagram, spelled-layout, spelled-carries}
 
 -- ---- bytes that are laid out
 
@@ -75,7 +75,7 @@ read-back-some N l = go (ℕ-discrete (length l) (recordLength N)) (laid-out-dec
     go (no n) h r = (_, wrong-length n)
     go (yes e) (no n) r = (_, no-diagram e n)
     go (yes e) (yes h) (no n) = (_, not-smallest h (λ r. n (record-of-spelled h r)))
-    go (yes e) (yes h) (yes r) = let w = laid-out-diagram N l h in (_, record-of (spelled-is-diagram N l w) (record-carried w (spelled-is-diagram N l w) (spelled-iso N l w) r))
+    go (yes e) (yes h) (yes r) = let w = laid-out-diagram N l h in (_, record-of (spelled-is-diagram N l w) (record-carried w (spelled-is-diagram N l w) (λ i. i, spelled-carries N l w) r))
 
 -- ---- when 14, when 22, when a diagram
 

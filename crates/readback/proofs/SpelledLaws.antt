@@ -20,16 +20,16 @@ use Rattle.cd.specs.declared.Edge.{Edge}
 use Rattle.cd.specs.declared.Node.the-variants.{Unringed}
 use Rattle.cd.proofs.Stored.{joins-same}
 use Rattle.filing.specs.Bytes.{blocks}
-use Rattle.filing.specs.Diagrams.{Diagram, IsNode, IsEdge, IsDiagram, Iso}
+use Rattle.filing.specs.Diagrams.{Diagram, IsNode, IsEdge, IsDiagram, Carries}
 use Rattle.filing.specs.Diagrams as filing
 use Rattle.filing.specs.Fractions.{Fraction, SameFraction}
 use Rattle.filing.specs.Numberings.{Numbering}
 use Rattle.filing.specs.Readable.{nodeAt, fractionAt, pairPlace, spelled}
 use Rattle.filing.specs.Records.{layout}
 use Rattle.filing.proofs.Bytes.{singles-at, one-more}
-use Rattle.filing.proofs.Filing.{layout-same}
+use Rattle.filing.proofs.Filing.{layout-carried}
 use Rattle.filing.proofs.Gcd.{lowest-whole}
-use Rattle.filing.proofs.Numberings.{identity, differ}
+use Rattle.filing.proofs.Numberings.{identity}
 use Rattle.tables.specs.Diagrams.{filed, two, joint, diagram}
 use Rattle.tables.specs.Tables.{IsNumber, IsLowest, IsKept}
 use Rattle.tables.proofs.Joints.{two-edge, joint-symmetric}
@@ -172,9 +172,6 @@ module _ (N : ℕ) (l : List ℕ) where
   unfolding diagram spelled
   spelled-size = length-nodesTo l (getD l 0 0)
 
-  pub spelled-numbering : (p : ℕ → ℕ) → Numbering (spelled N l .size) p → Numbering (readBack N l .size) p
-  spelled-numbering p np = rw spelled-size np
-
   back-symmetric : (i j : ℕ) → readBack N l .edge i j ≡ readBack N l .edge j i
   unfolding diagram
   back-symmetric i j = joint-symmetric (edgesIn N l) i j
@@ -217,16 +214,13 @@ module _ (N : ℕ) (l : List ℕ) (w : IsDiagram N (spelled N l)) where
       edges i j h k ne = rw (spelled-kept i j (inside h) (inside k) ne) (kept-edge (spelled N l .edge i j) (w .edges i j (inside h) (inside k) ne))
 
   -- numbered alike, the two show the same
-  pub spelled-iso : Iso (spelled N l) (readBack N l)
-  spelled-iso = (
-    λ i. i,
-    record {
-      size = sym (spelled-size N l);
-      numbering = identity (spelled N l .size);
-      nodes = λ i h. sym (spelled-node i h);
-      edges = λ i j h k ne. sym (spelled-edge i j h k ne);
-    },
-  )
+  pub spelled-carries : Carries (spelled N l) (readBack N l) (λ i. i)
+  spelled-carries = record {
+    size = sym (spelled-size N l);
+    numbering = identity (spelled N l .size);
+    nodes = λ i h. sym (spelled-node i h);
+    edges = λ i j h k ne. sym (spelled-edge i j h k ne);
+  }
 
   spelled-lowest : ((i j : ℕ) → i < spelled N l .size → j < spelled N l .size → i ≢ j → IsLowest (spelled N l .edge i j))
       → (i j : ℕ) → i < readBack N l .size → j < readBack N l .size → i ≢ j → IsLowest (readBack N l .edge i j)
@@ -236,16 +230,7 @@ module _ (N : ℕ) (l : List ℕ) (w : IsDiagram N (spelled N l)) where
       rw (spelled-kept i j hi hj ne) (kept-lowest (spelled N l .edge i j) (low i j hi hj ne))
 
   pub spelled-layout : (p : ℕ → ℕ) → Numbering (spelled N l .size) p → layout N (readBack N l) p ≡ layout N (spelled N l) p
-  spelled-layout p np = layout-same N spelled-is-diagram w (spelled-numbering N l p np) np (record { size = spelled-size N l; nodes = nodes; pairs = pairs })
-    where
-      nodes : (i : ℕ) → i < readBack N l .size → readBack N l .node (p i) ≡ spelled N l .node (p i)
-      nodes i h = spelled-node (p i) (np .within i (rw (spelled-size N l) at h))
-
-      pairs : (i j : ℕ) → i < j → j < readBack N l .size → SameFraction (readBack N l .edge (p i) (p j)) (spelled N l .edge (p i) (p j))
-      pairs i j h k =
-          let hj : j < spelled N l .size = rw (spelled-size N l) at k in
-          let hi : i < spelled N l .size = omega arith in
-          spelled-edge (p i) (p j) (np .within i hi) (np .within j hj) (differ np hi hj (omega arith))
+  spelled-layout p np = sym (layout-carried w spelled-is-diagram spelled-carries np .1)
 
 pub spelled-is-kept : (N : ℕ) (l : List ℕ) → IsKept N (spelled N l) → IsKept N (readBack N l)
 spelled-is-kept N l w = record { is = spelled-is-diagram N l (w .is); lowest-terms = spelled-lowest N l (w .is) (w .lowest-terms) }
