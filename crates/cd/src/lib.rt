@@ -42,7 +42,7 @@ pub struct EdgeRef {
     pub edge: Edge,
 }
 
-// What a text, a buffer, a record, mirrors, a generator or a family is refused with; document 01's numbers are `numberOf` in specs/Refusals.antt.
+// What a text, a buffer, a record, a file, mirrors, a generator or a family is refused with; document 01's numbers are `numberOf` in specs/Refusals.antt.
 pub enum CdError {
     TooLong { pos: usize },
     NotAscii { pos: usize },
@@ -61,6 +61,9 @@ pub enum CdError {
     Crowded { column: usize },
     Infinite { node: usize },
     NoFamily,
+    ShelfLength,
+    ShelfPlace { place: usize },
+    OnShelf { place: usize },
     NotSmallest,
     InfiniteLength { pos: usize },
 }
@@ -99,6 +102,9 @@ pub fn figures(e: CdError) -> Numbers
         CdError::Crowded { column } => one_field(15, column),
         CdError::Infinite { node } => one_field(16, node),
         CdError::NoFamily => no_field(17),
+        CdError::ShelfLength => no_field(18),
+        CdError::ShelfPlace { place } => one_field(19, place),
+        CdError::OnShelf { place } => one_field(20, place),
         CdError::NotSmallest => no_field(22),
         CdError::InfiniteLength { pos } => one_field(23, pos),
     }

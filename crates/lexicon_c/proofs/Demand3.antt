@@ -12,7 +12,7 @@ use Rattle.cd.specs.Arrays.{padded}
 use Rattle.cd.specs.Diagrams.{Stored, limit}
 use Rattle.cd.specs.Refusals.{numberOf}
 use Rattle.cd.specs.declared.CdError.{CdError}
-use Rattle.cd.specs.declared.CdError.the-variants.{TooLong, NotAscii, MismatchedParenthesis, UnexpectedEnding, ParseError, InvalidSymbol, InvalidEdge, RepeatEdge, OutOfRange, TooManyNodes, MissingNode, ShortBuffer, RecordLength, NoDiagram, Crowded, Infinite, NoFamily, NotSmallest, InfiniteLength}
+use Rattle.cd.specs.declared.CdError.the-variants.{TooLong, NotAscii, MismatchedParenthesis, UnexpectedEnding, ParseError, InvalidSymbol, InvalidEdge, RepeatEdge, OutOfRange, TooManyNodes, MissingNode, ShortBuffer, RecordLength, NoDiagram, Crowded, Infinite, NoFamily, ShelfLength, ShelfPlace, OnShelf, NotSmallest, InfiniteLength}
 use Rattle.cd.specs.declared.Node.{Node}
 use Rattle.filing.specs.Diagrams.{Carries, Iso}
 use Rattle.filing.specs.Numberings.{at}
@@ -49,6 +49,9 @@ numbered NoDiagram = omega arith
 numbered (Crowded k) = omega arith
 numbered (Infinite k) = omega arith
 numbered NoFamily = omega arith
+numbered ShelfLength = omega arith
+numbered (ShelfPlace p) = omega arith
+numbered (OnShelf p) = omega arith
 numbered NotSmallest = omega arith
 numbered (InfiniteLength p) = omega arith
 
