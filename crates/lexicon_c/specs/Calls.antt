@@ -1,10 +1,12 @@
--- The promises of the calls whose promises in crates/lexicon are more than an equation: some answer that `lexicon` promises is what is told and shown.
+-- The promises of the calls whose promises in Rattle are more than an equation: some answer that `lexicon` or `shelf` promises is what is told and shown.
 use mathlib.Core.Bool.{Bool, not}
 use mathlib.Core.List.{List, [], _∷_}
 use mathlib.Core.Path.{_≡_}
 use Prim.Native.Nat.{ℕ}
 use lib.Dec.{eqb}
 use lib.ListN.{getD}
+use Rattle.float.specs.Pick.{pick}
+use Rattle.cd.specs.Diagrams.{limit}
 use Rattle.lexicon.specs.Files.{Files}
 use Rattle.lexicon.specs.Reads.{Reads}
 use Rattle.lexicon.specs.ReadsRecord.{ReadsRecord}
@@ -13,6 +15,13 @@ use Rattle.lexicon.specs.declared.Reading.{Reading}
 use Rattle.parse.specs.declared.Answer.{Answer}
 use Rattle.parse.specs.declared.Answer.the-variants as said
 use Rattle.parse.specs.declared.Read.{Read}
+use Rattle.shelf.specs.Adds.{Adds}
+use Rattle.shelf.specs.Bisects.{Bisects}
+use Rattle.shelf.specs.Checks.{Checks}
+use Rattle.shelf.specs.Finds.{Finds}
+use Rattle.shelf.specs.declared.Added.{Added}
+use Rattle.shelf.specs.declared.Checked.{Checked}
+use Rattle.shelf.specs.declared.Found.{Found}
 use Rattle.lent.specs.Outcomes.{Lends, told}
 use Rattle.lent.specs.Shown.{outcome, ofReading, ofRecord}
 
@@ -42,3 +51,36 @@ pub record FilesForC (wish : Bool) (text out out′ numbering numbering′ answe
   pub nodes : numbering′ ≡ replaced (filed .answer) numbering (filed .numbering)
   pub answer : answer′ ≡ told (outcome {A = ℕ} (filed .answer) (filed .count ∷ []) [])
   pub returned : r ≡ getD answer′ 0 0
+
+-- ---- shelf files
+
+-- an answer that shows nothing: the four numbers, and the first of them returned
+pub record Tells (answer : Answer) (fields answer′ : List ℕ) (r : ℕ) : Type 0 where
+  pub answer : answer′ ≡ told (outcome {A = ℕ} answer fields [])
+  pub returned : r ≡ getD answer′ 0 0
+
+-- the number of places
+pub record ChecksForC (file answer′ : List ℕ) (r : ℕ) : Type 0 where
+  pub checked : Checked
+  pub checks : Checks limit file checked
+  pub tells : Tells (checked .answer) (checked .places ∷ []) answer′ r
+
+-- 1 or 0, and the place
+abbrev pub foundNumbers : Found → List ℕ
+foundNumbers f = pick (f .present) 1 0 ∷ f .place ∷ []
+
+pub record FindsForC (file bytes answer′ : List ℕ) (r : ℕ) : Type 0 where
+  pub found : Found
+  pub finds : Finds limit file bytes found
+  pub tells : Tells (found .answer) (foundNumbers found) answer′ r
+
+pub record BisectsForC (file bytes answer′ : List ℕ) (r : ℕ) : Type 0 where
+  pub found : Found
+  pub bisects : Bisects limit file bytes found
+  pub tells : Tells (found .answer) (foundNumbers found) answer′ r
+
+-- the place of the new record; `Adds` says what the buffer holds afterwards
+pub record AddsForC (file bytes out out′ answer′ : List ℕ) (r : ℕ) : Type 0 where
+  pub added : Added
+  pub adds : Adds limit file bytes out out′ added
+  pub tells : Tells (added .answer) (added .place ∷ []) answer′ r

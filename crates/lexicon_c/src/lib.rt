@@ -3,12 +3,13 @@
 use cd::LIMIT;
 use lent::ANSWER;
 use parse::Answer;
+use shelf::Found;
 ghost use Rattle.lent.specs.Outcomes.{Lends};
 ghost use Rattle.lent.specs.Shown.{ofSquare, ofGenerated, ofReflected};
 ghost use Rattle.geometry.specs.Points.{generatorOfText, reflectionsOfText};
 ghost use Rattle.geometry.specs.Squares.{matrixOf, mirrorsOf, familyMatrixOf, familyMirrorsOf};
 ghost use Rattle.parse.specs.Reading.{read};
-ghost use Rattle.lexicon_c.specs.Calls.{wished, ReadsForC, FilesForC, ReadsRecordForC};
+ghost use Rattle.lexicon_c.specs.Calls.{wished, ReadsForC, FilesForC, ReadsRecordForC, Tells, foundNumbers, ChecksForC, FindsForC, BisectsForC, AddsForC};
 
 #[no_mangle]
 pub extern "C" fn lexicon_read(
@@ -130,4 +131,70 @@ pub extern "C" fn lexicon_family_mirrors(
     ensures { λ r. ⌜ Lends (ofSquare (familyMirrorsOf letter size)) (now (out .entry)) (now (out .exit)) (now (answer .exit)) r ⌝ }
 {
     lent::show_square(geometry::family_mirrors(letter, size), out, answer)
+}
+
+// ---- shelf files
+
+// Tells how many places a shelf has.
+#[no_mangle]
+pub extern "C" fn lexicon_shelf_check(file: &[u8], answer: &mut [usize; ANSWER]) -> usize
+    ensures { λ r. ⌜ ChecksForC (now (file .entry)) (now (answer .exit)) r ⌝ }
+{
+    let c = shelf::check(file);
+    let a = c.answer;
+    match a {
+        Answer::Accepted => lent::tell([0, c.places, 0, 0], answer),
+        Answer::Refused(e) => lent::refuse(e, answer),
+    }
+}
+
+// 1 and the record's place, or 0 and the place where it would stand.
+fn tell_found(f: Found, answer: &mut [usize; ANSWER]) -> usize
+    ensures { λ r. ⌜ Tells (f .answer) (foundNumbers f) (now (answer .exit)) r ⌝ }
+{
+    let a = f.answer;
+    match a {
+        Answer::Accepted => lent::tell([0, f.present as usize, f.place, 0], answer),
+        Answer::Refused(e) => lent::refuse(e, answer),
+    }
+}
+
+#[no_mangle]
+pub extern "C" fn lexicon_shelf_find(
+    file: &[u8],
+    bytes: &[u8],
+    answer: &mut [usize; ANSWER],
+) -> usize
+    ensures { λ r. ⌜ FindsForC (now (file .entry)) (now (bytes .entry)) (now (answer .exit)) r ⌝ }
+{
+    tell_found(shelf::find(file, bytes), answer)
+}
+
+#[no_mangle]
+pub extern "C" fn lexicon_shelf_bisect(
+    file: &[u8],
+    bytes: &[u8],
+    answer: &mut [usize; ANSWER],
+) -> usize
+    ensures { λ r. ⌜ BisectsForC (now (file .entry)) (now (bytes .entry)) (now (answer .exit)) r ⌝ }
+{
+    tell_found(shelf::bisect(file, bytes), answer)
+}
+
+// Tells the place of the new record.
+#[no_mangle]
+pub extern "C" fn lexicon_shelf_add(
+    file: &[u8],
+    bytes: &[u8],
+    out: &mut [u8],
+    answer: &mut [usize; ANSWER],
+) -> usize
+    ensures { λ r. ⌜ AddsForC (now (file .entry)) (now (bytes .entry)) (now (out .entry)) (now (out .exit)) (now (answer .exit)) r ⌝ }
+{
+    let f = shelf::add(file, bytes, out);
+    let a = f.answer;
+    match a {
+        Answer::Accepted => lent::tell([0, f.place, 0, 0], answer),
+        Answer::Refused(e) => lent::refuse(e, answer),
+    }
 }

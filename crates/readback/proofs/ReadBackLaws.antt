@@ -29,7 +29,7 @@ module _ (N : ℕ) (l : List ℕ) (h : LaidOut N l) where
   pub laid-out-back : layout N (readBack N l) (λ i. i) ≡ l
   laid-out-back = spelled-layout N l (laid-out-diagram N l h) (λ i. i) (identity (spelled N l .size)) ∙ laid-out-plain N l h
 
-  laid-out-length : length l ≡ recordLength N
+  pub laid-out-length : length l ≡ recordLength N
   laid-out-length = ap length (h .laid) ∙ length-layout N (h .of) (h .is .few) (h .numbering)
 
 -- ---- one answer

@@ -109,7 +109,7 @@ fn lay<'a>(
 }
 
 // Whether two slices hold the same bytes.
-fn same(a: &[u8], b: &[u8]) -> bool
+pub fn same(a: &[u8], b: &[u8]) -> bool
     ensures { λ r. ⌜ Decides (now (a .entry) ≡ now (b .entry)) r ⌝ }
 {
     if a.len() != b.len() {
