@@ -20,10 +20,10 @@ abbrev pub middle : ℕ → ℕ → ℕ
 middle low high = low + (high - low) / 2
 
 -- among the places from low up to high, x is looked for up to the middle one if it is no greater than that, else behind it, until none is left: at p
-pub data Bisection (N : ℕ) (l x : List ℕ) (low high p : ℕ) : Type 0 where
-  none-left : high ≤ low → p ≡ low → Bisection N l x low high p
-  in-front : low < high → x ≼ placeAt (recordLength N) l (middle low high) → Bisection N l x low (middle low high) p → Bisection N l x low high p
-  behind : low < high → placeAt (recordLength N) l (middle low high) ≺ x → Bisection N l x (suc (middle low high)) high p → Bisection N l x low high p
+pub data Bisection (N : ℕ) (l x : List ℕ) : ℕ → ℕ → ℕ → Type 0 where
+  none-left : {low high : ℕ} → high ≤ low → Bisection N l x low high low
+  in-front : {low high p : ℕ} → low < high → x ≼ placeAt (recordLength N) l (middle low high) → Bisection N l x low (middle low high) p → Bisection N l x low high p
+  behind : {low high p : ℕ} → low < high → placeAt (recordLength N) l (middle low high) ≺ x → Bisection N l x (suc (middle low high)) high p → Bisection N l x low high p
 
 -- the record can be read, the file has n places, and bisection among them ends at p
 pub record Bisected (N : ℕ) (file x : List ℕ) (n p : ℕ) : Type 0 where
