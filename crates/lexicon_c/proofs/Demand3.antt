@@ -79,11 +79,11 @@ module _ {wish : Bool} {text out out′ : List ℕ} {r : Filed} where
   to-0 n k (filed h l a c w) d = k ∙ ap (λ x. getD (told (outcome {A = ℕ} x (r .count ∷ []) [])) 0 0) a
 
 pub returned-0 : {wish : Bool} {text out out′ p p′ u : List ℕ} {n : ℕ} → FilesForC wish text out out′ p p′ u n → n ≡ 0 → Filed0 wish text out
-returned-0 {n = n} f z = on-0 n z (f .returned ∙ ap (λ u. getD u 0 0) (f .answer)) (f .files)
+returned-0 {n = n} f z = on-0 n z (f .tells .returned ∙ ap (λ u. getD u 0 0) (f .tells .answer)) (f .files)
 
 -- and such a call returns 0
 pub returns-0 : {wish : Bool} {text out out′ p p′ u : List ℕ} {n : ℕ} → FilesForC wish text out out′ p p′ u n → Filed0 wish text out → n ≡ 0
-returns-0 {n = n} f d = to-0 n (f .returned ∙ ap (λ u. getD u 0 0) (f .answer)) (f .files) d
+returns-0 {n = n} f d = to-0 n (f .tells .returned ∙ ap (λ u. getD u 0 0) (f .tells .answer)) (f .files) d
 
 -- the numbering that such a call leaves
 numbering-0 : {wish : Bool} {text out out′ p p′ u : List ℕ} {n : ℕ} (f : FilesForC wish text out out′ p p′ u n) → Filed0 wish text out → p′ ≡ f .filed .numbering
@@ -94,8 +94,8 @@ numbering-0 {p = p} f d = f .nodes ∙ ap (λ a. replaced a p (f .filed .numberi
 pub one-answer : {wish : Bool} {text out a b p q q′ u v : List ℕ} {m n : ℕ} → FilesForC wish text out a p q u m → FilesForC wish text out b p q′ v n → (a ≡ b) × (q ≡ q′) × (u ≡ v) × (m ≡ n)
 one-answer {p = p} {u = u} {v = v} f g =
     let (bytes, same) = one.one-answer (f .files) (g .files) in
-    let told-same : u ≡ v = f .answer ∙ ap (λ (x : Filed). told (outcome {A = ℕ} (x .answer) (x .count ∷ []) [])) same ∙ sym (g .answer) in
-    (bytes, f .nodes ∙ ap (λ (x : Filed). replaced (x .answer) p (x .numbering)) same ∙ sym (g .nodes), told-same, f .returned ∙ ap (λ z. getD z 0 0) told-same ∙ sym (g .returned))
+    let told-same : u ≡ v = f .tells .answer ∙ ap (λ (x : Filed). told (outcome {A = ℕ} (x .answer) (x .count ∷ []) [])) same ∙ sym (g .tells .answer) in
+    (bytes, f .nodes ∙ ap (λ (x : Filed). replaced (x .answer) p (x .numbering)) same ∙ sym (g .nodes), told-same, f .tells .returned ∙ ap (λ z. getD z 0 0) told-same ∙ sym (g .tells .returned))
 
 -- one text, one record and one numbering, whatever the buffers were
 pub one-filing : {wish : Bool} {text a a′ b b′ p p′ q q′ u v : List ℕ} {m n : ℕ} → FilesForC wish text a a′ p p′ u m → FilesForC wish text b b′ q q′ v n → m ≡ 0 → n ≡ 0

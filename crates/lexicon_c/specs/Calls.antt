@@ -44,20 +44,19 @@ unfoldable pub replaced : Answer → List ℕ → List ℕ → List ℕ
 replaced said.Accepted old new = new
 replaced (said.Refused e) old new = old
 
+-- what is told of an answer, or of a refusal: the four numbers, and the first of them returned
+pub record Tells (a : Answer) (fields answer′ : List ℕ) (r : ℕ) : Type 0 where
+  pub answer : answer′ ≡ told (outcome {A = ℕ} a fields [])
+  pub returned : r ≡ getD answer′ 0 0
+
 -- `Files` says what the buffer holds afterwards
 pub record FilesForC (wish : Bool) (text out out′ numbering numbering′ answer′ : List ℕ) (r : ℕ) : Type 0 where
   pub filed : Filed
   pub files : Files wish text out out′ filed
   pub nodes : numbering′ ≡ replaced (filed .answer) numbering (filed .numbering)
-  pub answer : answer′ ≡ told (outcome {A = ℕ} (filed .answer) (filed .count ∷ []) [])
-  pub returned : r ≡ getD answer′ 0 0
+  pub tells : Tells (filed .answer) (filed .count ∷ []) answer′ r
 
 -- ---- shelf files
-
--- an answer that shows nothing: the four numbers, and the first of them returned
-pub record Tells (answer : Answer) (fields answer′ : List ℕ) (r : ℕ) : Type 0 where
-  pub answer : answer′ ≡ told (outcome {A = ℕ} answer fields [])
-  pub returned : r ≡ getD answer′ 0 0
 
 -- the number of places
 pub record ChecksForC (file answer′ : List ℕ) (r : ℕ) : Type 0 where

@@ -1,19 +1,14 @@
 -- `lexicon_c::lexicon_read` meets its contract: the values of an accepted text are no nan (proofs/Valued.antt). Assumes nothing.
-use mathlib.Core.Bool.{Bool, true, false}
 use mathlib.Core.List.{[], _∷_}
-use mathlib.Core.Path.{_≡_, refl, ap}
+use mathlib.Core.Path.{ap}
 use Prim.Native.Nat.{ℕ}
-use mir.Val.{boolByte}
 use borrow.Author.Needs.{needs}
 use Rattle.float.specs.Pick.{pick}
 use Rattle.cd.specs.Arrays.{padded}
+use Rattle.lexicon_c.proofs.Telling.{flag}
 use Rattle.lexicon_c.proofs.Valued.{text-valued}
 use Rattle.lexicon_c.proofs.lexicon_read.Statement.{statement}
 use Rattle.lexicon_c.proofs.lexicon_read.Tie as tie
-
-flag : (b : Bool) → boolByte b ≡ pick b 1 0
-flag true = refl
-flag false = refl
 
 read-requires : tie.Need-read-requires
 read-requires c κs = search needs

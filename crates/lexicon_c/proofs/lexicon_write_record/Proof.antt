@@ -3,8 +3,7 @@ use mathlib.Core.Path.{refl}
 use borrow.Author.Needs.{needs}
 use Rattle.cd.specs.Arrays.{padded}
 use Rattle.lexicon_c.specs.Calls.{replaced}
-use Rattle.lent.specs.Outcomes.{told}
-use Rattle.lent.specs.Shown.{outcome}
+use Rattle.lexicon_c.proofs.Telling.{tells-answer, tells-refusal}
 use Rattle.lexicon_c.proofs.lexicon_write_record.Statement.{statement}
 use Rattle.lexicon_c.proofs.lexicon_write_record.Tie as tie
 
@@ -27,7 +26,7 @@ same-length : tie.Need-same-length
 same-length c = search needs
 
 returns : tie.Need-returns
-unfolding padded replaced outcome told
+unfolding padded replaced
 returns c =
     let f = c .before .before .before .before .before .before .before in
     let e = c .before .before .before .enum-told .given .1 in
@@ -35,15 +34,14 @@ returns c =
       filed = f .write-record .result;
       files = f .write-record .ensures;
       nodes = rw e refl;
-      answer = rw e (c .tell .ensures .0);
-      returned = c .tell .ensures .1;
+      tells = tells-answer e (c .tell .ensures);
     }
 
 same-length-2 : tie.Need-same-length-2
 same-length-2 c = search needs
 
 returns-2 : tie.Need-returns-2
-unfolding replaced outcome told
+unfolding replaced
 returns-2 c =
     let f = c .before .before .before .before .before .before .before in
     let e = c .before .before .before .a .given .1 in
@@ -51,8 +49,7 @@ returns-2 c =
       filed = f .write-record .result;
       files = f .write-record .ensures;
       nodes = rw e refl;
-      answer = rw e (c .refuse .ensures .0);
-      returned = c .refuse .ensures .1;
+      tells = tells-refusal e (c .refuse .ensures);
     }
 
 pub lexicon-write-record-spec : {M : Type 1} → statement M
