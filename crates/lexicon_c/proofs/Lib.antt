@@ -1,6 +1,7 @@
--- Why values have bits, how many entries reflections have, and of the calls for C demand 3 and the law of mending.
+-- Why values have bits, how many entries reflections have, what is told; and of the calls for C demand 3, the law of mending, and one answer of a file.
 mod Valued
 mod Entries
 mod Telling
 pub mod Demand3
 pub mod Mending
+pub mod Shelves
