@@ -1,6 +1,7 @@
-/* Coxeter diagrams in line notation and their filing records: the calls of crates/lexicon for C, proved in crates/lexicon_c.
+/* Coxeter diagrams in line notation, their filing records, and files of records: the calls of crates/lexicon, geometry and shelf for C, proved in
+ * crates/lexicon_c.
  *
- * Each call takes any text, record, family letter and size, and any length of buffer, and ends with an answer or with a refusal. It returns 0 for an
+ * Each call takes any text, record, file, family letter and size, and any length of buffer, and ends with an answer or with a refusal. It returns 0 for an
  * answer, or the refusal's number, keeps nothing but the processor's floating-point flags, allocates nothing, and may be called from any thread; 20 KB of
  * stack were enough for every call.
  *
@@ -31,6 +32,10 @@
  *   15      mirrors that do not exist                          column: the first that does not fit
  *   16      an infinite length                                 node: the first such
  *   17      a letter or a size that no family has
+ *   18      a file whose length is no multiple of 370
+ *   19      a place of a file that can't be read or is not     place: the first such
+ *           greater than the one before
+ *   20      a record that is already on the shelf              place: the record's
  *   22      a well laid out record that is not the smallest
  *   23      an infinite length that was not wished             position: the literal's last byte
  *
@@ -54,7 +59,7 @@ extern "C" {
 enum {
     LEXICON_LIMIT = 9,         /* the most nodes of a diagram */
     LEXICON_ANSWER = 4,        /* numbers of an answer */
-    LEXICON_RECORD = 370,      /* bytes of a record */
+    LEXICON_RECORD = 370,      /* bytes of a record, and of a place of a file */
     LEXICON_DIAGRAM = 153,     /* numbers of a diagram */
     LEXICON_SQUARE = 81,       /* doubles of a matrix or of mirrors */
     LEXICON_GENERATOR = 10,    /* doubles of a generator */
@@ -114,6 +119,36 @@ size_t lexicon_family_matrix(uint8_t letter, size_t size, double *out, size_t ou
 /* The mirrors of a family, laid out as for lexicon_mirrors. Tells the nodes.
  * Refuses with 17, 15 and 12. */
 size_t lexicon_family_mirrors(uint8_t letter, size_t size, double *out, size_t out_len, size_t answer[LEXICON_ANSWER]);
+
+/* ---- shelf files
+ *
+ * A shelf file holds the records of many articles, one at each place of 370 bytes, and nothing else: no header, and each record greater than the one
+ * before in byte order, which is that of memcmp. So no record is on it twice. An empty file is a shelf of 0 places. The calls touch no disk: a caller
+ * lends the bytes of the file.
+ *
+ * A record that is looked up or added is read first, as by lexicon_read_record; then the file is tested, its length before its places. */
+
+/* Whether a file is a shelf. Tells how many places it has.
+ * Refuses with 18 and 19, tested in this order. It reads every place, each in the time of lexicon_read_record. */
+size_t lexicon_shelf_check(const uint8_t *file, size_t file_len, size_t answer[LEXICON_ANSWER]);
+
+/* Whether a record is on a shelf. Tells 1 and its place, or 0 and the place where it would stand, which is the number of records less than it.
+ * Refuses with 13, 14, 22, 18 and 19, tested in this order. It checks the whole file at each call, in the time of lexicon_shelf_check. */
+size_t lexicon_shelf_find(const uint8_t *file, size_t file_len, const uint8_t *bytes, size_t bytes_len, size_t answer[LEXICON_ANSWER]);
+
+/* As lexicon_shelf_find, for a file that was checked and has not changed since, such as one that a server loaded: of a shelf it tells the same, which is
+ * proved. Of another file it tells where bisection ends: after a 1 the record is at the place told, but after a 0 it may be at some other place.
+ * Refuses with 13, 14, 22 and 18, tested in this order. It reads the record, and compares it with about log2(places) places. */
+size_t lexicon_shelf_bisect(const uint8_t *file, size_t file_len, const uint8_t *bytes, size_t bytes_len, size_t answer[LEXICON_ANSWER]);
+
+/* The shelf with one record added, file_len + 370 bytes. Tells the place of the new record. Every old record is there, in the old order, and the new file
+ * is a shelf, which need not be checked again. `file` stays as it is.
+ * Refuses with 13, 14, 22, 18, 19, 20 and 12, tested in this order. It checks the whole file at each call, in the time of lexicon_shelf_check, and copies it.
+ *
+ * No record is added in place: `out` overlaps neither `file` nor `bytes`, nor do these overlap. To file many records at once, sort them by memcmp, write
+ * each once, one after another, and check the file. */
+size_t lexicon_shelf_add(const uint8_t *file, size_t file_len, const uint8_t *bytes, size_t bytes_len, uint8_t *out, size_t out_len,
+                         size_t answer[LEXICON_ANSWER]);
 
 #ifdef __cplusplus
 }

@@ -17,17 +17,22 @@
 enum {
     MOST_BYTES = 255, // of a text
     SPARE = 3,        // elements behind those that a call may write, which it must keep
-    ROOM = (LEXICON_REFLECTIONS + SPARE) * sizeof(double),
-    NODE_BYTES = 9, // of a record
+    NODE_BYTES = 9,   // of a record
     PAIR_BYTES = 8,
     RENUMBERINGS = 24, // of four places
+    PLACES = 4,        // of a shelf
+    MANY_PLACES = 300,
+    FIGURES = 2 * PLACES + 1,
+    ROOM = (MANY_PLACES + 1) * LEXICON_RECORD + SPARE, // bytes, more than those of reflections
 };
 
-// A text and the wish, a record or a family: each call takes what it needs.
+// A text and the wish, a record, a file or both, or a family: each call takes what it needs.
 struct input {
     const void *bytes;
     size_t len;
     size_t wish;
+    const uint8_t *file;
+    size_t file_len;
     uint8_t letter;
     size_t size;
 };
@@ -35,26 +40,33 @@ struct input {
 // A call has one of these forms, or is the only one of its form.
 typedef size_t to_doubles(const uint8_t *text, size_t len, size_t wish, double *out, size_t out_len, size_t answer[LEXICON_ANSWER]);
 typedef size_t of_family(uint8_t letter, size_t size, double *out, size_t out_len, size_t answer[LEXICON_ANSWER]);
+typedef size_t in_file(const uint8_t *file, size_t file_len, const uint8_t *bytes, size_t len, size_t answer[LEXICON_ANSWER]);
 
 struct call {
     const char *name;
     size_t element; // the bytes of an element of its buffer
-    size_t writes;  // the elements that it writes
+    size_t writes;  // the elements that it writes, besides those of a file
     to_doubles *to_doubles;
     of_family *of_family;
+    in_file *in_file;
 };
 
-static const struct call read_text = {"lexicon_read", sizeof(uint64_t), LEXICON_DIAGRAM, NULL, NULL};
-static const struct call write_record = {"lexicon_write_record", sizeof(uint8_t), LEXICON_RECORD, NULL, NULL};
-static const struct call read_record = {"lexicon_read_record", sizeof(uint64_t), LEXICON_DIAGRAM, NULL, NULL};
+static const struct call read_text = {"lexicon_read", sizeof(uint64_t), LEXICON_DIAGRAM, NULL, NULL, NULL};
+static const struct call write_record = {"lexicon_write_record", sizeof(uint8_t), LEXICON_RECORD, NULL, NULL, NULL};
+static const struct call read_record = {"lexicon_read_record", sizeof(uint64_t), LEXICON_DIAGRAM, NULL, NULL, NULL};
 static const struct call matrix = {"lexicon_matrix", sizeof(double), LEXICON_SQUARE, .to_doubles = lexicon_matrix};
 static const struct call mirrors = {"lexicon_mirrors", sizeof(double), LEXICON_SQUARE, .to_doubles = lexicon_mirrors};
 static const struct call generator = {"lexicon_generator", sizeof(double), LEXICON_GENERATOR, .to_doubles = lexicon_generator};
 static const struct call reflections = {"lexicon_reflections", sizeof(double), LEXICON_REFLECTIONS, .to_doubles = lexicon_reflections};
 static const struct call family_matrix = {"lexicon_family_matrix", sizeof(double), LEXICON_SQUARE, .of_family = lexicon_family_matrix};
 static const struct call family_mirrors = {"lexicon_family_mirrors", sizeof(double), LEXICON_SQUARE, .of_family = lexicon_family_mirrors};
+static const struct call shelf_check = {"lexicon_shelf_check", sizeof(uint8_t), 0, NULL, NULL, NULL};
+static const struct call shelf_find = {"lexicon_shelf_find", sizeof(uint8_t), 0, .in_file = lexicon_shelf_find};
+static const struct call shelf_bisect = {"lexicon_shelf_bisect", sizeof(uint8_t), 0, .in_file = lexicon_shelf_bisect};
+static const struct call shelf_add = {"lexicon_shelf_add", sizeof(uint8_t), LEXICON_RECORD, NULL, NULL, NULL};
 
 static const struct call *const of_texts[] = {&read_text, &write_record, &matrix, &mirrors, &generator, &reflections};
+static const struct call *const of_records_and_files[] = {&shelf_find, &shelf_bisect, &shelf_add};
 
 // ---- one call, with all that it may and may not change
 
@@ -76,7 +88,7 @@ static void check(bool holds, const char *what)
     if (now->of_family)
         printf("family %u, size %zu", (unsigned)given.letter, given.size);
     else
-        printf("%zu bytes, wish %zu", given.len, given.wish);
+        printf("%zu bytes, wish %zu, file of %zu bytes", given.len, given.wish, given.file_len);
     printf(", buffer of %zu: %s; answer %zu %zu %zu %zu\n", given_out, what, answer[0], answer[1], answer[2], answer[3]);
     exit(1);
 }
@@ -87,11 +99,23 @@ static size_t run(void *buffer)
         return now->to_doubles(given.bytes, given.len, given.wish, buffer, given_out, answer);
     if (now->of_family)
         return now->of_family(given.letter, given.size, buffer, given_out, answer);
+    if (now->in_file)
+        return now->in_file(given.file, given.file_len, given.bytes, given.len, answer);
+    if (now == &shelf_check)
+        return lexicon_shelf_check(given.file, given.file_len, answer);
+    if (now == &shelf_add)
+        return lexicon_shelf_add(given.file, given.file_len, given.bytes, given.len, buffer, given_out, answer);
     if (now == &read_text)
         return lexicon_read(given.bytes, given.len, given.wish, buffer, given_out, answer);
     if (now == &read_record)
         return lexicon_read_record(given.bytes, given.len, buffer, given_out, answer);
     return lexicon_write_record(given.bytes, given.len, given.wish, buffer, given_out, numbering, answer);
+}
+
+// The elements that an answer writes.
+static size_t writes(const struct call *call, struct input in)
+{
+    return call->writes + (call == &shelf_add ? in.file_len : 0);
 }
 
 // Whether so many bytes all have this value.
@@ -116,7 +140,7 @@ static bool numbers(const size_t *places, size_t n)
 // Runs the call over memory that is filled with a byte, and checks the answer and all that is to keep that byte.
 static void run_over(uint8_t fill, void *buffer, bool null, const size_t *wanted)
 {
-    size_t room = (now->writes + SPARE) * now->element;
+    size_t room = (writes(now, given) + SPARE) * now->element;
     memset(buffer, fill, room);
     memset(numbering, fill, sizeof numbering);
     memset(answer, fill, sizeof answer);
@@ -125,7 +149,7 @@ static void run_over(uint8_t fill, void *buffer, bool null, const size_t *wanted
     check(memcmp(answer, wanted, LEXICON_ANSWER * sizeof *answer) == 0, "its answer is another");
     check(filled(answer + LEXICON_ANSWER, fill, SPARE * sizeof *answer), "it writes past its answer");
 
-    size_t written = number == 0 ? now->writes * now->element : 0;
+    size_t written = number == 0 ? writes(now, given) * now->element : 0;
     check(filled((uint8_t *)buffer + written, fill, room - written), "it changes elements that it should keep");
     bool numbered = number == 0 && now == &write_record;
     size_t places = numbered ? LEXICON_LIMIT : 0;
@@ -141,7 +165,7 @@ static void expect(const struct call *call, struct input in, size_t out_len, con
     given_out = out_len;
     run_over(0xa5, again, false, wanted);
     run_over(0x5a, out, false, wanted);
-    check(wanted[0] != 0 || memcmp(out, again, now->writes * now->element) == 0, "it leaves an element of its answer unwritten");
+    check(wanted[0] != 0 || memcmp(out, again, writes(now, given) * now->element) == 0, "it leaves an element of its answer unwritten");
     if (out_len == 0)
         run_over(0xa5, again, true, wanted);
 }
@@ -149,19 +173,24 @@ static void expect(const struct call *call, struct input in, size_t out_len, con
 // An answer, to a buffer that is full and to a longer one. To shorter ones 12.
 static void expect_answer(const struct call *call, struct input in, const size_t *wanted)
 {
-    expect(call, in, 0, ANSWER(12));
-    expect(call, in, 1, ANSWER(12));
-    expect(call, in, call->writes - 1, ANSWER(12));
-    expect(call, in, call->writes, wanted);
-    expect(call, in, call->writes + SPARE, wanted);
+    size_t full = writes(call, in);
+    if (full > 0) {
+        expect(call, in, 0, ANSWER(12));
+        expect(call, in, 1, ANSWER(12));
+        expect(call, in, full - 1, ANSWER(12));
+    }
+    expect(call, in, full, wanted);
+    expect(call, in, full + SPARE, wanted);
 }
 
 // A refusal, with every buffer: 12 comes after all others.
 static void expect_refusal(const struct call *call, struct input in, const size_t *wanted)
 {
+    size_t full = writes(call, in);
     expect(call, in, 0, wanted);
-    expect(call, in, call->writes - 1, wanted);
-    expect(call, in, call->writes, wanted);
+    if (full > 0)
+        expect(call, in, full - 1, wanted);
+    expect(call, in, full, wanted);
 }
 
 static struct input bytes(const void *at, size_t len)
@@ -182,6 +211,19 @@ static struct input wished(const char *typed, size_t wish)
 static struct input record(const uint8_t *at)
 {
     return bytes(at, LEXICON_RECORD);
+}
+
+static struct input file_alone(const uint8_t *file, size_t file_len)
+{
+    return (struct input){.file = file, .file_len = file_len};
+}
+
+// A record to be looked up in a file or added to it.
+static struct input with_file(const uint8_t *file, size_t file_len, struct input in)
+{
+    in.file = file;
+    in.file_len = file_len;
+    return in;
 }
 
 static struct input family(unsigned letter, size_t size)
@@ -588,6 +630,257 @@ static void mended_records(void)
     }
 }
 
+// ---- shelf files
+
+// Figures by rising record. The second, fourth and so on are on the shelf; the others would stand before all, between any two, and after all.
+static const char *const rising[FIGURES] = {"*a", "o", "x", "s", "x3o", "x4o", "x4o3o", "x3o4o", "x3o3o3o"};
+static uint8_t figures[FIGURES][LEXICON_RECORD], shelf[PLACES * LEXICON_RECORD];
+
+static void fill_shelf(void)
+{
+    for (size_t i = 0; i < FIGURES; i++) {
+        record_of(rising[i], figures[i]);
+        if (i % 2 == 1)
+            memcpy(shelf + LEXICON_RECORD * (i / 2), figures[i], LEXICON_RECORD);
+    }
+}
+
+static const uint8_t *place(const uint8_t *file, size_t i)
+{
+    return file + LEXICON_RECORD * i;
+}
+
+// What bisection finds in any file, without 19.
+static void expect_bisection(struct input in)
+{
+    size_t places = in.file_len / LEXICON_RECORD, low = 0, high = places;
+    if (in.file_len % LEXICON_RECORD != 0) {
+        expect_refusal(&shelf_bisect, in, ANSWER(18));
+        return;
+    }
+    while (low < high) {
+        size_t middle = low + (high - low) / 2;
+        if (memcmp(in.bytes, place(in.file, middle), LEXICON_RECORD) <= 0)
+            high = middle;
+        else
+            low = middle + 1;
+    }
+    bool present = low < places && memcmp(in.bytes, place(in.file, low), LEXICON_RECORD) == 0;
+    expect_answer(&shelf_bisect, in, ANSWER(0, present, low));
+}
+
+// 18 or 19, whichever figure is looked up or added: 20 comes after them.
+static void expect_wrong_file(const uint8_t *file, size_t len, const size_t *wanted)
+{
+    expect_refusal(&shelf_check, file_alone(file, len), wanted);
+    for (size_t i = 0; i < FIGURES; i++) {
+        struct input in = with_file(file, len, record(figures[i]));
+        expect_refusal(&shelf_find, in, wanted);
+        expect_refusal(&shelf_add, in, wanted);
+        expect_bisection(in);
+    }
+}
+
+// The new file has the record at the place told, and the old file around it.
+static void expect_added(struct input in, size_t at)
+{
+    const uint8_t *added = out;
+    size_t before = LEXICON_RECORD * at;
+    expect_answer(&shelf_add, in, ANSWER(0, at));
+    check(memcmp(added, in.file, before) == 0, "an old record before the new one is another");
+    check(memcmp(added + before, in.bytes, LEXICON_RECORD) == 0, "the new record is not at its place");
+    check(memcmp(added + before + LEXICON_RECORD, in.file + before, in.file_len - before) == 0, "an old record behind the new one is another");
+}
+
+// Each figure is found where it is, or added where it would stand, behind as many records as are less.
+static void expect_shelf(const uint8_t *file, size_t places)
+{
+    size_t len = LEXICON_RECORD * places;
+    expect_answer(&shelf_check, file_alone(file, len), ANSWER(0, places));
+    for (size_t i = 0; i < FIGURES; i++) {
+        struct input in = with_file(file, len, record(figures[i]));
+        size_t at = 0;
+        while (at < places && memcmp(place(file, at), figures[i], LEXICON_RECORD) < 0)
+            at++;
+        bool present = at < places && memcmp(place(file, at), figures[i], LEXICON_RECORD) == 0;
+        expect_answer(&shelf_find, in, ANSWER(0, present, at));
+        expect_answer(&shelf_bisect, in, ANSWER(0, present, at));
+        if (present)
+            expect_refusal(&shelf_add, in, ANSWER(20, at));
+        else
+            expect_added(in, at);
+    }
+}
+
+static void shelves(void)
+{
+    uint8_t one[LEXICON_RECORD]; // apart from the record that is looked up, as the header asks
+    for (size_t places = 0; places <= PLACES; places++)
+        expect_shelf(shelf, places);
+    for (size_t i = 0; i < FIGURES; i++) {
+        memcpy(one, figures[i], sizeof one);
+        expect_shelf(one, 1);
+        struct input in = with_file(NULL, 0, record(figures[i]));
+        expect_answer(&shelf_find, in, ANSWER(0, 0, 0));
+        expect_answer(&shelf_bisect, in, ANSWER(0, 0, 0));
+        expect_answer(&shelf_add, in, ANSWER(0, 0));
+    }
+    expect_answer(&shelf_check, file_alone(NULL, 0), ANSWER(0, 0));
+}
+
+// Also of files whose first place is wrong: 18 comes before 19.
+static void file_lengths(void)
+{
+    static const size_t lengths[] = {1, LEXICON_RECORD - 1, LEXICON_RECORD + 1, 2 * LEXICON_RECORD - 1, 2 * LEXICON_RECORD + 1};
+    uint8_t file[2 * LEXICON_RECORD + 1];
+    memset(file, 0xff, sizeof file);
+    for (size_t i = 0; i < LEN(lengths); i++) {
+        expect_wrong_file(shelf, lengths[i], ANSWER(18));
+        expect_wrong_file(file, lengths[i], ANSWER(18));
+    }
+    expect_wrong_file(file, LEXICON_RECORD, ANSWER(19, 0));
+    memset(file, 0, sizeof file); // the record of no nodes, twice
+    expect_shelf(file, 1);
+    expect_wrong_file(file, 2 * LEXICON_RECORD, ANSWER(19, 1));
+}
+
+// The shelf with other bytes at a place. Nothing that is wrong behind it changes the answer.
+static void expect_wrong_place(size_t at, const uint8_t *laid)
+{
+    uint8_t file[sizeof shelf];
+    memcpy(file, shelf, sizeof file);
+    memcpy(file + LEXICON_RECORD * at, laid, LEXICON_RECORD);
+    expect_wrong_file(file, sizeof file, ANSWER(19, at));
+    expect_wrong_file(file, LEXICON_RECORD * (at + 1), ANSWER(19, at));
+    memset(file + LEXICON_RECORD * (at + 1), 0xff, sizeof file - LEXICON_RECORD * (at + 1));
+    expect_wrong_file(file, sizeof file, ANSWER(19, at));
+}
+
+// Of each place the first byte and the last.
+static void damaged_places(void)
+{
+    static const struct {
+        size_t at;
+        uint8_t value;
+    } damages[] = {{0, 0}, {0, 9}, {0, 10}, {0, 255}, {LEXICON_RECORD - 1, 1}, {LEXICON_RECORD - 1, 255}};
+    uint8_t laid[LEXICON_RECORD];
+    for (size_t i = 0; i < PLACES; i++)
+        for (size_t k = 0; k < LEN(damages); k++) {
+            memcpy(laid, place(shelf, i), sizeof laid);
+            laid[damages[k].at] = damages[k].value;
+            expect_wrong_place(i, laid);
+        }
+    memcpy(laid, place(shelf, 2), sizeof laid);
+    exchange(laid, 2, 0, 1); // laid out well, greater than the place before it, but not the smallest
+    expect_wrong_place(2, laid);
+}
+
+// Equal neighbours, and each place given a figure that is less than the one before.
+static void unsorted_places(void)
+{
+    uint8_t file[sizeof shelf];
+    for (size_t i = 1; i < PLACES; i++) {
+        for (size_t k = 0; k < 2 * i; k++)
+            expect_wrong_place(i, figures[k]);
+        memcpy(file, shelf, sizeof file);
+        swap(file + LEXICON_RECORD * (i - 1), file + LEXICON_RECORD * i, LEXICON_RECORD);
+        expect_wrong_file(file, sizeof file, ANSWER(19, i));
+    }
+}
+
+// The record is read before the file, which may be good or bad.
+static void expect_refused_record(struct input in, const size_t *wanted)
+{
+    static const uint8_t wrong[2 * LEXICON_RECORD] = {0}; // 19 at 1
+    for (size_t i = 0; i < LEN(of_records_and_files); i++) {
+        const struct call *call = of_records_and_files[i];
+        expect_refusal(call, with_file(NULL, 0, in), wanted);
+        expect_refusal(call, with_file(shelf, sizeof shelf, in), wanted);
+        expect_refusal(call, with_file(shelf, 1, in), wanted);
+        expect_refusal(call, with_file(shelf, sizeof shelf - 1, in), wanted);
+        expect_refusal(call, with_file(wrong, sizeof wrong, in), wanted);
+    }
+}
+
+static void refused_records(void)
+{
+    uint8_t laid[LEXICON_RECORD + 1] = {0};
+    expect_refused_record(bytes(NULL, 0), ANSWER(13));
+    for (size_t i = 0; i < FIGURES; i++) {
+        memcpy(laid, figures[i], LEXICON_RECORD);
+        expect_refused_record(bytes(laid, LEXICON_RECORD - 1), ANSWER(13));
+        expect_refused_record(bytes(laid, LEXICON_RECORD + 1), ANSWER(13));
+        laid[LEXICON_RECORD - 1] = 1;
+        expect_refused_record(record(laid), ANSWER(14));
+    }
+    record_of("x4o", laid);
+    exchange(laid, 2, 0, 1);
+    expect_refused_record(record(laid), ANSWER(22));
+    laid[0] = 255;
+    expect_refused_record(record(laid), ANSWER(14));
+}
+
+// A buffer that would hold the record, or the file, but not both.
+static void short_buffers(void)
+{
+    struct input in = with_file(shelf, sizeof shelf, record(figures[2]));
+    expect(&shelf_add, in, LEXICON_RECORD - 1, ANSWER(12));
+    expect(&shelf_add, in, LEXICON_RECORD, ANSWER(12));
+    expect(&shelf_add, in, sizeof shelf, ANSWER(12));
+    expect(&shelf_add, in, sizeof shelf + 1, ANSWER(12));
+}
+
+// Adds each figure once, in an order that the step gives, to a file that is empty first.
+static void build(size_t step, uint8_t file[sizeof figures])
+{
+    bool on[FIGURES] = {false};
+    for (size_t i = 0; i < FIGURES; i++) {
+        size_t next = step * (i + 1) % FIGURES, at = 0;
+        for (size_t k = 0; k < next; k++)
+            at += on[k];
+        expect_added(with_file(file, LEXICON_RECORD * i, record(figures[next])), at);
+        memcpy(file, out, LEXICON_RECORD * (i + 1));
+        expect_shelf(file, i + 1);
+        on[next] = true;
+    }
+}
+
+// Whichever came first, the file is the same.
+static void orders(void)
+{
+    static const size_t steps[] = {1, 2, 4, FIGURES - 1}; // the last is falling
+    uint8_t file[sizeof figures];
+    for (size_t i = 0; i < LEN(steps); i++) {
+        build(steps[i], file);
+        check(memcmp(file, figures, sizeof file) == 0, "the file built is another");
+    }
+}
+
+// More places than a byte counts: x3o, x4o and so on. Of the figures between them, x7/2o would stand behind x7o.
+static void many_places(void)
+{
+    static uint8_t file[LEXICON_RECORD * MANY_PLACES];
+    uint8_t between[LEXICON_RECORD];
+    char typed[MOST_BYTES];
+    for (size_t i = 0; i < MANY_PLACES; i++) {
+        snprintf(typed, sizeof typed, "x%zuo", i + 3);
+        record_of(typed, file + LEXICON_RECORD * i);
+    }
+    expect_answer(&shelf_check, file_alone(file, sizeof file), ANSWER(0, MANY_PLACES));
+    for (size_t i = 0; i < MANY_PLACES; i += 2) {
+        memcpy(between, place(file, i), sizeof between);
+        expect_answer(&shelf_find, with_file(file, sizeof file, record(between)), ANSWER(0, 1, i));
+        expect_answer(&shelf_bisect, with_file(file, sizeof file, record(between)), ANSWER(0, 1, i));
+        snprintf(typed, sizeof typed, "x%zu/2o", i + 3);
+        record_of(typed, between);
+        expect_answer(&shelf_find, with_file(file, sizeof file, record(between)), ANSWER(0, 0, i + 1));
+        expect_answer(&shelf_bisect, with_file(file, sizeof file, record(between)), ANSWER(0, 0, i + 1));
+    }
+    expect_added(with_file(file, sizeof file, record(between)), MANY_PLACES - 1);
+    file[sizeof file - 1] = 1;
+    expect_wrong_file(file, sizeof file, ANSWER(19, MANY_PLACES - 1));
+}
+
 // ---- families
 
 static size_t least_size(unsigned letter)
@@ -688,6 +981,15 @@ int main(void)
     damaged_bytes();
     any_values();
     mended_records();
+    fill_shelf();
+    shelves();
+    file_lengths();
+    damaged_places();
+    unsorted_places();
+    refused_records();
+    short_buffers();
+    orders();
+    many_places();
     families();
     past_one_node();
     printf("edges: %lu checks\n", checks);

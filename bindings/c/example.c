@@ -1,5 +1,5 @@
-// Prints what the library tells of each argument, or of a few texts without any, then which of them are the same figure, and what it says of three records
-// that somebody sent.
+// Prints what the library tells of each argument, or of a few texts without any, at which places of a shelf file they are filed, which of them are the same
+// figure, and what it says of three records that somebody sent.
 // Usage: example [TEXT..]
 #include <inttypes.h>
 #include <stdbool.h>
@@ -20,6 +20,12 @@ struct article {
     size_t numbering[LEXICON_LIMIT], nodes;
 };
 
+// A shelf file in memory.
+struct shelf {
+    uint8_t *bytes;
+    size_t len;
+};
+
 static const uint8_t *bytes(const char *text)
 {
     return (const uint8_t *)text;
@@ -28,7 +34,7 @@ static const uint8_t *bytes(const char *text)
 // The refusal's number, then its fields.
 static void print_refusal(const char *what, const size_t *answer)
 {
-    static const size_t fields[] = {0, 1, 1, 1, 1, 1, 1, 3, 2, 1, 1, 1, 0, 0, 0, 1, 1, 0, [23] = 1}; // how many, by the number
+    static const size_t fields[] = {0, 1, 1, 1, 1, 1, 1, 3, 2, 1, 1, 1, 0, 0, 0, 1, 1, 0, 0, 1, 1, [23] = 1}; // how many, by the number
     printf("  no %s:", what);
     for (size_t i = 0; i <= fields[answer[0]]; i++)
         printf(" %zu", answer[i]);
@@ -119,6 +125,58 @@ static void print_radius(const char *text)
         printf("  radius: %.6f\n", generator[9]);
 }
 
+// Adds an article's record. The longer file is written to other memory, since no record is added in place. A refusal leaves the file as it was: with 20 the
+// figure has an article already, at the place told.
+static bool add_article(struct shelf *shelf, const struct article *article)
+{
+    size_t answer[LEXICON_ANSWER], len = shelf->len + LEXICON_RECORD;
+    uint8_t *longer = malloc(len);
+    if (!longer)
+        return false;
+    printf("adding `%s`\n", article->text);
+    if (lexicon_shelf_add(shelf->bytes, shelf->len, article->record, LEXICON_RECORD, longer, len, answer) != 0) {
+        print_refusal("place", answer);
+        free(longer);
+        return true;
+    }
+    printf("  place: %zu\n", answer[1]);
+    free(shelf->bytes);
+    *shelf = (struct shelf){longer, len};
+    return true;
+}
+
+// Whether a headword is taken, asked of a file that was checked or that lexicon_shelf_add wrote, so that lexicon_shelf_find need not check it again.
+static void print_taken(const struct shelf *shelf, const char *text)
+{
+    uint8_t record[LEXICON_RECORD];
+    size_t numbering[LEXICON_LIMIT], answer[LEXICON_ANSWER];
+    if (lexicon_write_record(bytes(text), strlen(text), wish, record, LEXICON_RECORD, numbering, answer) != 0
+        || lexicon_shelf_bisect(shelf->bytes, shelf->len, record, LEXICON_RECORD, answer) != 0)
+        print_refusal("headword", answer);
+    else if (answer[1])
+        printf("`%s` is taken, at place %zu\n", text, answer[2]);
+    else
+        printf("`%s` is free, and would stand at place %zu\n", text, answer[2]);
+}
+
+// The shelf of all articles. A server would load the file from a disk and check it once; here it is empty first, which is a shelf too.
+static bool print_shelf(const struct article *articles, size_t count)
+{
+    struct shelf shelf = {NULL, 0};
+    size_t answer[LEXICON_ANSWER];
+    if (lexicon_shelf_check(shelf.bytes, shelf.len, answer) != 0) {
+        print_refusal("shelf", answer);
+        return false;
+    }
+    bool filed = true;
+    for (size_t i = 0; i < count && filed; i++)
+        filed = add_article(&shelf, &articles[i]);
+    print_taken(&shelf, "o3o4x");
+    print_taken(&shelf, "x5o3o");
+    free(shelf.bytes);
+    return filed;
+}
+
 static int by_record(const void *a, const void *b)
 {
     const struct article *x = a, *y = b;
@@ -198,8 +256,9 @@ int main(int argc, char **argv)
         print_mirrors(texts[i]);
         print_radius(texts[i]);
     }
+    bool filed = print_shelf(articles, accepted);
     print_same(articles, accepted);
     free(articles);
     print_all_sent();
-    return 0;
+    return filed ? 0 : 1;
 }

@@ -7,8 +7,8 @@ use crate::diagram::part;
 /// What a call gives, or why it refuses.
 pub type CdResult<T> = Result<T, CdError>;
 
-/// Why a text, a record, mirrors, a generator or a family is refused. Positions, nodes, columns and
-/// edges are counted from 0, positions in bytes.
+/// Why a text, a record, mirrors, a generator, a family or a shelf is refused. Positions, nodes,
+/// columns, edges and places are counted from 0, positions in bytes.
 ///
 /// ```
 /// use lexicon::{Cd, CdError};
@@ -125,6 +125,22 @@ pub enum CdError {
     /// No family has this letter and size.
     NoFamily,
 
+    /// The length of a shelf file is no multiple of 370: it was cut, or is no shelf file.
+    ShelfLength,
+
+    /// The bytes at a place of a shelf file can't be read as a record, or are not greater in byte
+    /// order than those at the place before.
+    ShelfPlace {
+        /// The first such place.
+        place: usize,
+    },
+
+    /// A record that is to be added is already on the shelf.
+    OnShelf {
+        /// Its place.
+        place: usize,
+    },
+
     /// A record is well laid out, but not the smallest of its renumberings: it tells a figure under
     /// another numbering than the filed one, and must not serve as a key. Each text of the figure
     /// gets the right record, by [`Cd::record`](crate::Cd::record).
@@ -139,7 +155,7 @@ pub enum CdError {
 }
 
 impl CdError {
-    /// The number of this refusal in the specification and in `lexicon.h`, 1 to 17, 22 or 23,
+    /// The number of this refusal in the specification and in `lexicon.h`, 1 to 20, 22 or 23,
     /// for logs and for messages to programs in other languages.
     #[must_use]
     pub fn number(&self) -> u32 {
@@ -161,6 +177,9 @@ impl CdError {
             Self::Crowded { .. } => 15,
             Self::Infinite { .. } => 16,
             Self::NoFamily => 17,
+            Self::ShelfLength => 18,
+            Self::ShelfPlace { .. } => 19,
+            Self::OnShelf { .. } => 20,
             Self::NotSmallest => 22,
             Self::InfiniteLength { .. } => 23,
         }
@@ -190,6 +209,9 @@ impl CdError {
             15 => Self::Crowded { column: a },
             16 => Self::Infinite { node: a },
             17 => Self::NoFamily,
+            18 => Self::ShelfLength,
+            19 => Self::ShelfPlace { place: a },
+            20 => Self::OnShelf { place: a },
             22 => Self::NotSmallest,
             23 => Self::InfiniteLength { pos: a },
             _ => unreachable!("lexicon.h has no refusal {number}"),
@@ -227,6 +249,14 @@ impl fmt::Display for CdError {
             }
             Self::Infinite { node } => write!(f, "infinite length at node {node}"),
             Self::NoFamily => write!(f, "no family of this letter and size"),
+            Self::ShelfLength => {
+                write!(f, "no shelf file, or a cut one: length no multiple of 370")
+            }
+            Self::ShelfPlace { place } => write!(
+                f,
+                "shelf file wrong at place {place}: record unreadable, or not greater than the one before"
+            ),
+            Self::OnShelf { place } => write!(f, "record already on the shelf, at place {place}"),
             Self::NotSmallest => write!(
                 f,
                 "record well laid out, but not the smallest numbering: file the figure's text again"

@@ -2,9 +2,9 @@
 //!
 //! The header asks of a caller that a pointer is aligned and has as many elements behind it as the
 //! length beside it says, an answer four and a numbering nine, and that none overlap. Each function
-//! below lends arrays of its own, of these lengths, so it is safe for every argument, and 12 cannot
-//! come. The calling convention stands in the declarations, and the default floating-point
-//! environment is what Rust itself assumes.
+//! below lends arrays of its own, of these lengths, beside at most one slice of its caller's, so it
+//! is safe for every argument, and 12 cannot come. The calling convention stands in the
+//! declarations, and the default floating-point environment is what Rust itself assumes.
 
 use crate::{CdError, CdResult};
 
@@ -102,6 +102,26 @@ extern "sysv64" {
         out_len: usize,
         answer: *mut usize,
     ) -> usize;
+
+    fn lexicon_shelf_check(file: *const u8, file_len: usize, answer: *mut usize) -> usize;
+
+    fn lexicon_shelf_bisect(
+        file: *const u8,
+        file_len: usize,
+        bytes: *const u8,
+        bytes_len: usize,
+        answer: *mut usize,
+    ) -> usize;
+
+    fn lexicon_shelf_add(
+        file: *const u8,
+        file_len: usize,
+        bytes: *const u8,
+        bytes_len: usize,
+        out: *mut u8,
+        out_len: usize,
+        answer: *mut usize,
+    ) -> usize;
 }
 
 /// Tells the nodes, the stored edges and whether the diagram is minimal. Here and below, lengths may
@@ -171,6 +191,55 @@ pub fn read_record(bytes: &[u8]) -> Written<u64, DIAGRAM> {
         )
     };
     Ok((out, told(answer)?))
+}
+
+/// How many places a shelf file has.
+pub fn shelf_check(file: &[u8]) -> CdResult<usize> {
+    let mut answer = [0; ANSWER];
+    // SAFETY: the length is the slice's own, and the header's for the answer.
+    unsafe { lexicon_shelf_check(file.as_ptr(), file.len(), answer.as_mut_ptr()) };
+    let [places, ..] = told(answer)?;
+    Ok(places)
+}
+
+/// The place at which bisection finds a record in any file, or at which it ends without finding it.
+pub fn shelf_bisect(file: &[u8], record: &[u8; RECORD]) -> CdResult<Result<usize, usize>> {
+    let record = *record; // which might lie in the file
+    let mut answer = [0; ANSWER];
+    // SAFETY: the lengths are the slice's and the array's own, and the header's for the answer.
+    unsafe {
+        lexicon_shelf_bisect(
+            file.as_ptr(),
+            file.len(),
+            record.as_ptr(),
+            record.len(),
+            answer.as_mut_ptr(),
+        )
+    };
+    let [present, place, _] = told(answer)?;
+    Ok(if present == 1 { Ok(place) } else { Err(place) })
+}
+
+/// A shelf file with a record added, and the place of that record.
+pub fn shelf_add(file: &[u8], record: &[u8; RECORD]) -> CdResult<(Vec<u8>, usize)> {
+    let record = *record; // which might lie in the file
+    let mut out = vec![0; file.len() + RECORD];
+    let mut answer = [0; ANSWER];
+    // SAFETY: the lengths are the slice's, the array's and the vector's own, and the header's for
+    // the answer.
+    unsafe {
+        lexicon_shelf_add(
+            file.as_ptr(),
+            file.len(),
+            record.as_ptr(),
+            record.len(),
+            out.as_mut_ptr(),
+            out.len(),
+            answer.as_mut_ptr(),
+        )
+    };
+    let [place, ..] = told(answer)?;
+    Ok((out, place))
 }
 
 /// `call` is one of the header's that take a text and have no numbering.

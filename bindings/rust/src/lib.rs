@@ -15,8 +15,20 @@
 //! # Ok::<(), CdError>(())
 //! ```
 //!
+//! A [`Shelf`] is a file of many records, sorted: an editor adds articles to it, and a server asks
+//! it whether a headword is taken.
+//!
+//! ```
+//! use lexicon::{Cd, Shelf};
+//!
+//! let mut shelf = Shelf::default();
+//! shelf.add(&Cd::parse("x3o4o")?.record())?;
+//! assert!(shelf.contains(&Cd::parse("o4o3x")?.record()));
+//! # Ok::<(), lexicon::CdError>(())
+//! ```
+//!
 //! The work is done by the proved library that `include/lexicon.h` describes. This crate hands it
-//! texts and buffers and gives types to its numbers; it decides nothing about diagrams itself.
+//! texts, files and buffers and gives types to its numbers; it decides nothing about diagrams itself.
 //!
 //! # Limits
 //!
@@ -72,9 +84,11 @@ mod error;
 #[allow(unsafe_code)]
 mod ffi;
 mod record;
+mod shelf;
 
 pub use cd::{Cd, Generator};
 pub use cox::{Cox, Matrix};
 pub use diagram::{Diagram, Edge, Node, StoredEdge};
 pub use error::{CdError, CdResult};
 pub use record::{Record, RecordError};
+pub use shelf::Shelf;

@@ -3,7 +3,7 @@
 
 use std::{collections::HashSet, error::Error};
 
-use lexicon::{Cd, CdError, CdResult, Cox, Record};
+use lexicon::{Cd, CdError, CdResult, Cox, Record, Shelf};
 
 const SPACES: [u8; 256] = [b' '; 256];
 
@@ -156,6 +156,28 @@ fn families() {
     let refusal = Cox::a(0).unwrap_err();
     assert_eq!((refusal, refusal.number()), (CdError::NoFamily, 17));
     assert_eq!(refusal.to_string(), "no family of this letter and size");
+}
+
+#[test]
+fn shelves() {
+    let length = Shelf::new([0; 369]).unwrap_err();
+    assert_eq!((length, length.number()), (CdError::ShelfLength, 18));
+    let words = "no shelf file, or a cut one: length no multiple of 370";
+    assert_eq!(length.to_string(), words);
+
+    let place = Shelf::new([0; 740]).unwrap_err();
+    assert_eq!(place, CdError::ShelfPlace { place: 1 });
+    assert_eq!(place.number(), 19);
+    let words =
+        "shelf file wrong at place 1: record unreadable, or not greater than the one before";
+    assert_eq!(place.to_string(), words);
+
+    let mut shelf = Shelf::new([0; 370]).unwrap();
+    let present = shelf.add(&Cd::parse("*a").unwrap().record()).unwrap_err();
+    assert_eq!(present, CdError::OnShelf { place: 0 });
+    assert_eq!(present.number(), 20);
+    let words = "record already on the shelf, at place 0";
+    assert_eq!(present.to_string(), words);
 }
 
 /// No call of this crate gives 12, which has its case all the same.
