@@ -23,7 +23,7 @@
 //!
 //! let mut shelf = Shelf::default();
 //! shelf.add(&Cd::parse("x3o4o")?.record())?;
-//! assert!(shelf.contains(&Cd::parse("o4o3x")?.record()));
+//! assert!(shelf.contains(&Cd::parse("o4o3x")?.record())?);
 //! # Ok::<(), lexicon::CdError>(())
 //! ```
 //!

@@ -36,7 +36,7 @@ use crate::{
 /// use lexicon::{Cd, Shelf};
 ///
 /// let shelf = Shelf::new(std::fs::read("articles.shelf")?)?;
-/// match shelf.find(&Cd::parse("o4o3x")?.record()) {
+/// match shelf.find(&Cd::parse("o4o3x")?.record())? {
 ///     Ok(place) => println!("taken, at place {place}"),
 ///     Err(place) => println!("free, and would stand at place {place}"),
 /// }
@@ -117,49 +117,44 @@ impl Shelf {
         self.laid_out().iter().map(Record::from_trusted_bytes)
     }
 
-    /// The place of a record, or the place where it would stand, told as `binary_search` of a slice
-    /// tells it.
+    /// `Ok` with the place of a record, or `Err` with the place where it would stand, the number of
+    /// records that are less: as `binary_search` of a slice tells it.
     ///
     /// It reads the record, in the time of [`Record::from_bytes`], and compares it with about
     /// log2([`places`](Self::places)) places, without checking the file again. For a file that the
     /// check accepted, the call behind it, `lexicon_shelf_bisect`, is proved to answer what
-    /// `lexicon_shelf_find` answers, which checks it (theorem `bisects-finds` in
-    /// crates/shelf/proofs/Bisected.antt). What [`Shelf::add`] makes is proved to be a file that the
-    /// check accepts (`written-passes` in Librarian.antt there).
+    /// `lexicon_shelf_find` answers, which checks it (`bisect-as-find` in
+    /// `crates/lexicon_c/proofs/Shelves.antt`). What [`Shelf::add`] makes is proved to be a file that
+    /// the check accepts (`written-passes` in `crates/shelf/proofs/Librarian.antt`).
     ///
     /// # Errors
     ///
-    /// If the record is not on the shelf, the place where it would stand: the number of records
-    /// that are less.
-    ///
-    /// # Panics
-    ///
-    /// If [`Record::from_trusted_bytes`] was given bytes that [`Record::from_bytes`] refuses.
+    /// [`CdError::NoDiagram`] or [`CdError::NotSmallest`], but only if
+    /// [`Record::from_trusted_bytes`] was given bytes that [`Record::from_bytes`] refuses.
     ///
     /// ```
     /// use lexicon::{Cd, Shelf};
     ///
     /// let mut shelf = Shelf::default();
     /// shelf.add(&Cd::parse("x3o4o")?.record())?;
-    /// assert_eq!(shelf.find(&Cd::parse("o4o3x")?.record()), Ok(0));
-    /// assert_eq!(shelf.find(&Cd::parse("x3o3o3o")?.record()), Err(1));
+    /// assert_eq!(shelf.find(&Cd::parse("o4o3x")?.record())?, Ok(0));
+    /// assert_eq!(shelf.find(&Cd::parse("x3o3o3o")?.record())?, Err(1));
     /// # Ok::<(), lexicon::CdError>(())
     /// ```
-    pub fn find(&self, record: &Record) -> Result<usize, usize> {
-        match ffi::shelf_bisect(&self.bytes, record.as_bytes()) {
-            Ok(found) => found,
-            Err(e) => panic!("a record of trusted bytes was refused: {e}"),
-        }
+    ///
+    /// [`CdError::NoDiagram`]: crate::CdError::NoDiagram
+    /// [`CdError::NotSmallest`]: crate::CdError::NotSmallest
+    pub fn find(&self, record: &Record) -> CdResult<Result<usize, usize>> {
+        ffi::shelf_bisect(&self.bytes, record.as_bytes())
     }
 
     /// Whether a record is on the shelf, as [`Shelf::find`] tells it.
     ///
-    /// # Panics
+    /// # Errors
     ///
     /// As [`Shelf::find`].
-    #[must_use]
-    pub fn contains(&self, record: &Record) -> bool {
-        self.find(record).is_ok()
+    pub fn contains(&self, record: &Record) -> CdResult<bool> {
+        Ok(self.find(record)?.is_ok())
     }
 
     /// Adds a record, and returns its place, the one where it would stand by [`Shelf::find`]. The

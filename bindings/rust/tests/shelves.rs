@@ -54,7 +54,7 @@ fn an_empty_file_is_a_shelf() -> CdResult<()> {
     assert_eq!((empty.record(0), empty.records().next()), (None, None));
     assert_eq!(empty.as_bytes(), []);
     for record in records() {
-        assert_eq!(empty.find(&record), Err(0));
+        assert_eq!(empty.find(&record), Ok(Err(0)));
         let mut one = empty.clone();
         assert_eq!(one.add(&record), Ok(0));
         assert_eq!(one, Shelf::new(*record.as_bytes())?);
@@ -151,8 +151,8 @@ fn equal_and_descending_neighbours_are_refused() {
 fn finds_what_is_there_and_where_the_rest_would_stand() {
     for (i, record) in records().iter().enumerate() {
         let found = if i % 2 == 1 { Ok(i / 2) } else { Err(i / 2) };
-        assert_eq!(shelf().find(record), found, "{}", RISING[i]);
-        assert_eq!(shelf().contains(record), i % 2 == 1, "{}", RISING[i]);
+        assert_eq!(shelf().find(record), Ok(found), "{}", RISING[i]);
+        assert_eq!(shelf().contains(record), Ok(found.is_ok()), "{}", RISING[i]);
     }
 }
 
@@ -161,9 +161,9 @@ fn finds_what_is_there_and_where_the_rest_would_stand() {
 fn headwords_that_are_taken() {
     let shelf = shelf();
     for text in ["x3o4o", "o4o3x", "o6/2x *a4o", "x3o4o *a5*a"] {
-        assert_eq!(shelf.find(&record(text)), Ok(3), "{text}");
+        assert_eq!(shelf.find(&record(text)), Ok(Ok(3)), "{text}");
     }
-    assert!(!shelf.contains(&record("o3o4x")));
+    assert_eq!(shelf.contains(&record("o3o4x")), Ok(false));
 }
 
 #[test]
@@ -183,8 +183,8 @@ fn a_record_is_added_in_its_only_place() {
     for new in records().iter().step_by(2) {
         let mut added = shelf();
         let place = added.add(new).unwrap();
-        assert_eq!(shelf().find(new), Err(place));
-        assert_eq!(added.find(new), Ok(place));
+        assert_eq!(shelf().find(new), Ok(Err(place)));
+        assert_eq!(added.find(new), Ok(Ok(place)));
 
         let mut expected = on_shelf();
         expected.insert(place, *new);
@@ -192,8 +192,8 @@ fn a_record_is_added_in_its_only_place() {
         assert_eq!(Shelf::new(added.as_bytes()), Ok(added.clone()));
         for old in records().iter().filter(|&old| old != new) {
             let moved = |before| if before < place { before } else { before + 1 };
-            let found = shelf().find(old).map(moved);
-            assert_eq!(added.find(old).ok(), found.ok());
+            let found = shelf().find(old).unwrap().map(moved);
+            assert_eq!(added.find(old).unwrap().ok(), found.ok());
         }
         assert_eq!(added.add(new), Err(CdError::OnShelf { place }));
     }
@@ -207,9 +207,9 @@ fn is_the_same_in_whichever_order_it_was_built() {
     for order in [&rising, &falling, &mixed] {
         let mut shelf = Shelf::default();
         for (count, record) in order.iter().enumerate() {
-            let place = shelf.find(record).unwrap_err();
+            let place = shelf.find(record).unwrap().unwrap_err();
             assert_eq!(shelf.add(record), Ok(place));
-            assert_eq!(shelf.find(record), Ok(place));
+            assert_eq!(shelf.find(record), Ok(Ok(place)));
             assert_eq!(shelf.places(), count + 1);
         }
         assert_eq!(shelf.as_bytes(), bytes(&rising));
@@ -224,7 +224,7 @@ fn many_places_are_searched_as_a_slice_is() {
     let between = (3..303).step_by(2).map(|num| record(&format!("x{num}/2o")));
     let mut shelf = Shelf::new(bytes(&records)).unwrap();
     for record in records.iter().copied().chain(between) {
-        assert_eq!(shelf.find(&record), records.binary_search(&record));
+        assert_eq!(shelf.find(&record), Ok(records.binary_search(&record)));
     }
     let new = record("x277/2o");
     assert_eq!(shelf.add(&new), Ok(275));
@@ -238,29 +238,19 @@ fn many_places_are_searched_as_a_slice_is() {
 }
 
 #[test]
-fn records_of_trusted_bytes_are_read_before_they_are_added() {
+fn records_of_trusted_bytes_are_read_first() {
     let damaged = Record::from_trusted_bytes(&[255; Record::LEN]);
     for (record, refusal) in [
         (damaged, CdError::NoDiagram),
         (turned(), CdError::NotSmallest),
     ] {
         let mut shelf = shelf();
+        assert_eq!(shelf.find(&record), Err(refusal));
+        assert_eq!(shelf.contains(&record), Err(refusal));
         assert_eq!(shelf.add(&record), Err(refusal));
         assert_eq!(shelf.as_bytes(), bytes(&on_shelf()));
         assert_eq!(Shelf::default().add(&record), Err(refusal));
     }
-}
-
-#[test]
-#[should_panic(expected = "not the layout of any diagram")]
-fn finding_trusted_bytes_that_are_no_layout_panics() {
-    let _ = shelf().find(&Record::from_trusted_bytes(&[255; Record::LEN]));
-}
-
-#[test]
-#[should_panic(expected = "not the smallest numbering")]
-fn finding_trusted_bytes_that_are_numbered_badly_panics() {
-    let _ = Shelf::default().contains(&turned());
 }
 
 #[test]
@@ -269,7 +259,7 @@ fn threads_share_it() {
     thread::scope(|scope| {
         for (place, record) in on_shelf().into_iter().enumerate() {
             let shelf = &shelf;
-            scope.spawn(move || assert_eq!(shelf.find(&record), Ok(place)));
+            scope.spawn(move || assert_eq!(shelf.find(&record), Ok(Ok(place))));
         }
     });
 }
