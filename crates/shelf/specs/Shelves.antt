@@ -8,7 +8,7 @@ use Rattle.filing.specs.Bytes.{_≼_}
 use Rattle.filing.specs.Readable.{Readable}
 use Rattle.filing.specs.Records.{recordLength}
 
--- "greater in byte order": y is greater than x if it is not "no greater than x"
+-- "greater in byte order": y is greater than x where it is not no greater than x
 infix 50 _≺_
 abbrev pub _≺_ : List ℕ → List ℕ → Type 0
 x ≺ y = y ≼ x → ⊥
