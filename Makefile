@@ -70,6 +70,7 @@ models: oracle
 	@python3 oracle/cox.py
 	@python3 oracle/filing.py
 	@python3 oracle/counts.py
+	@python3 oracle/shelf.py
 
 oracle:
 	@oracle/build
