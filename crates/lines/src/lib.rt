@@ -15,6 +15,8 @@ ghost use Rattle.lexicon.specs.Answers.{numeral, spaced, answerOf};
 ghost use Rattle.lines.specs.Written.{Adds};
 ghost use Rattle.lines.specs.Arguments.{argumentOf};
 
+pub mod spelled; // spelled.rt: bytes that a line spells, and digests of bytes
+
 // Says a line on standard error: a program has no exit status.
 pub fn say(line: &[u8]) {
     io::write_all(2, line);
@@ -103,6 +105,13 @@ pub fn line_end(s: &[u8], from: usize) -> usize
         i += 1;
     }
     i
+}
+
+// For lines that take more than the 65,536 bytes of `io::large_buffer`.
+pub fn large_input() -> [u8; 131072]
+    ensures { λ r. ⌜ 131072 ≡ length r ⌝ }
+{
+    [0; 131072]
 }
 
 // Answers wait here, so that they are written many at a time.

@@ -16,13 +16,6 @@ const ROOM: usize = 400;
 // What a buffer holds before. No record holds it throughout, so a text that is refused shows.
 const UNWRITTEN: u8 = 0xa5;
 
-// The lines take more than the 65,536 bytes of `io::large_buffer`.
-fn input() -> [u8; 131072]
-    ensures { λ r. ⌜ 131072 ≡ length r ⌝ }
-{
-    [0; 131072]
-}
-
 fn filled(b: u8) -> [u8; ROOM]
     ensures { λ r. ⌜ 400 ≡ length r ⌝ }
 {
@@ -38,31 +31,6 @@ fn record_bytes(text: &[u8], rest: u8) -> [u8; ROOM]
     bytes
 }
 
-// A hexadecimal digit's value, 0 for another byte.
-fn digit(b: u8) -> usize
-    ensures { λ r. ⌜ r < 16 ⌝ }
-{
-    match b {
-        b'0'..=b'9' => (b - b'0') as usize,
-        b'a'..=b'f' => (b - b'a') as usize + 10,
-        _ => 0,
-    }
-}
-
-fn two_digits(s: &[u8], at: usize) -> usize
-    requires { ⌜ at + 2 ≤ length (now s) ⌝ }
-    ensures { λ r. ⌜ r < 256 ⌝ }
-{
-    digit(s[at]) * 16 + digit(s[at + 1])
-}
-
-fn three_digits(s: &[u8], at: usize) -> usize
-    requires { ⌜ at + 3 ≤ length (now s) ⌝ }
-    ensures { λ r. ⌜ r < 4096 ⌝ }
-{
-    digit(s[at]) * 256 + two_digits(s, at + 1)
-}
-
 // How many bytes of a buffer three digits mean.
 fn part(digits: &[u8]) -> usize
     ensures { λ r. ⌜ r ≤ 400 ⌝ }
@@ -70,61 +38,11 @@ fn part(digits: &[u8]) -> usize
     if digits.len() < 3 {
         return 0;
     }
-    let n = three_digits(digits, 0);
+    let n = lines::spelled::three_digits(digits, 0);
     if ROOM < n {
         return ROOM;
     }
     n
-}
-
-// Each five digits are an offset and the byte to put there.
-fn change(bytes: &mut [u8], digits: &[u8]) {
-    let mut i = 0;
-    while i + 5 <= digits.len() {
-        let offset = three_digits(digits, i);
-        if bytes.len() <= offset {
-            return;
-        }
-        bytes[offset] = two_digits(digits, i + 3) as u8;
-        i += 5;
-    }
-}
-
-fn equal(a: &[u8], b: &[u8]) -> bool {
-    if a.len() != b.len() {
-        return false;
-    }
-    let mut i = 0;
-    while i < a.len() {
-        if a[i] != b[i] {
-            return false;
-        }
-        i += 1;
-    }
-    true
-}
-
-fn digest(bytes: &[u8]) -> u64
-    ensures { λ r. ⌜ r < 4294967296 ⌝ }
-{
-    let mut h: u64 = 0;
-    let mut i = 0;
-    while i < bytes.len() {
-        h = (h * 65599 + bytes[i] as u64) % 4294967291;
-        i += 1;
-    }
-    h
-}
-
-// A space and the digest.
-fn put_digest(out: &mut [u8], at: usize, bytes: &[u8]) -> usize
-    requires { ⌜ at + 9 ≤ length (now out) ⌝ }
-    ensures { λ r. ⌜ r ≤ at + 9 ⌝ }
-{
-    let mut digits = [0u8; 16];
-    let k = io::hex(digest(bytes), 8, &mut digits);
-    let to = lines::put(out, at, b' ');
-    lines::put_all(out, to, &digits[..k])
 }
 
 // A space and for each place the digit of its node, `-` where there are no nodes. Nodes are below ten: the modulus changes none.
@@ -149,20 +67,6 @@ fn put_numbering(out: &mut [u8], at: usize, f: Filed) -> usize
     to
 }
 
-// `ok`, or `no` and the figures.
-fn put_answer(out: &mut [u8], at: usize, a: Answer) -> usize
-    requires { ⌜ at + 86 ≤ length (now out) ⌝ }
-    ensures { λ r. ⌜ r ≤ at + 86 ⌝ }
-{
-    match a {
-        Answer::Accepted => lines::put_all(out, at, b"ok"),
-        Answer::Refused(e) => {
-            let to = lines::put_all(out, at, b"no");
-            lines::put_numbers(out, to, cd::figures(e))
-        }
-    }
-}
-
 // How many nodes and stored edges there are.
 fn put_counts(out: &mut [u8], at: usize, cd: Cd) -> usize
     requires { ⌜ at + 42 ≤ length (now out) ⌝ }
@@ -178,7 +82,7 @@ fn put_read(out: &mut [u8], at: usize, r: Read) -> usize
     ensures { λ to. ⌜ to ≤ at + 128 ⌝ }
 {
     let a = r.answer;
-    let to = put_answer(out, at, a);
+    let to = lines::spelled::put_outcome(out, at, a);
     match a {
         Answer::Accepted => {
             let cd = r.cd;
@@ -197,14 +101,14 @@ fn filed(text: &[u8], out: &mut [u8], at: usize) -> usize
     let f = lexicon::write_record(text, true, &mut bytes);
     let a = f.answer;
     match a {
-        Answer::Refused(_) => put_answer(out, at, a),
+        Answer::Refused(_) => lines::spelled::put_outcome(out, at, a),
         Answer::Accepted => {
             let file = &bytes[0..RECORD];
             let r = lexicon::read_record(file);
             let cd = r.cd;
             let back = r.answer;
-            let mut to = put_answer(out, at, back);
-            to = put_digest(out, to, file);
+            let mut to = lines::spelled::put_outcome(out, at, back);
+            to = lines::spelled::put_digest(out, to, file);
             to = put_counts(out, to, cd);
             put_numbering(out, to, f)
         }
@@ -217,7 +121,7 @@ fn put_same(out: &mut [u8], at: usize, bytes: &[u8], f: Filed, g: Filed) -> usiz
     ensures { λ r. ⌜ r ≤ at + 33 ⌝ }
 {
     let mut to = lines::put_all(out, at, b"same");
-    to = put_digest(out, to, bytes);
+    to = lines::spelled::put_digest(out, to, bytes);
     to = put_numbering(out, to, f);
     put_numbering(out, to, g)
 }
@@ -227,8 +131,8 @@ fn put_apart(out: &mut [u8], at: usize, a: &[u8], b: &[u8]) -> usize
     ensures { λ r. ⌜ r ≤ at + 23 ⌝ }
 {
     let mut to = lines::put_all(out, at, b"apart");
-    to = put_digest(out, to, a);
-    put_digest(out, to, b)
+    to = lines::spelled::put_digest(out, to, a);
+    lines::spelled::put_digest(out, to, b)
 }
 
 // TEXT|TEXT
@@ -242,7 +146,7 @@ fn compared(one: &[u8], other: &[u8], out: &mut [u8], at: usize) -> usize
     let g = lexicon::write_record(other, true, &mut right);
     let a = &left[0..RECORD];
     let b = &right[0..RECORD];
-    if equal(a, b) {
+    if records::same(a, b) {
         return put_same(out, at, a, f, g);
     }
     put_apart(out, at, a, b)
@@ -254,7 +158,7 @@ fn changed(text: &[u8], digits: &[u8], out: &mut [u8], at: usize) -> usize
     ensures { λ r. ⌜ r ≤ at + 128 ⌝ }
 {
     let mut bytes = record_bytes(text, UNWRITTEN);
-    change(&mut bytes, digits);
+    lines::spelled::change(&mut bytes, digits);
     put_read(out, at, lexicon::read_record(&bytes[0..RECORD]))
 }
 
@@ -277,29 +181,15 @@ fn written(text: &[u8], digits: &[u8], out: &mut [u8], at: usize) -> usize
     let n = part(digits);
     let f = lexicon::write_record(text, true, &mut bytes[0..n]);
     let a = f.answer;
-    let to = put_answer(out, at, a);
-    put_digest(out, to, &bytes)
-}
-
-// The place of the first `|`, which no text holds, or the length.
-fn text_end(s: &[u8]) -> usize
-    ensures { λ r. ⌜ r ≤ length (now (s .entry)) ⌝ }
-{
-    let mut i = 0;
-    while i < s.len() {
-        if s[i] == b'|' {
-            return i;
-        }
-        i += 1;
-    }
-    i
+    let to = lines::spelled::put_outcome(out, at, a);
+    lines::spelled::put_digest(out, to, &bytes)
 }
 
 fn answer(s: &[u8], out: &mut [u8], at: usize) -> usize
     requires { ⌜ at + 147 ≤ length (now out) ⌝ }
     ensures { λ r. ⌜ r ≤ at + 147 ⌝ }
 {
-    let end = text_end(s);
+    let end = lines::spelled::until(s, 0, b'|');
     if s.len() - end < 2 {
         return filed(&s[0..end], out, at);
     }
@@ -320,7 +210,7 @@ fn line(s: &[u8], out: &mut [u8], at: usize) -> usize
 }
 
 fn main() {
-    let mut text = input();
+    let mut text = lines::large_input();
     let n = lines::read_input(&mut text);
     let mut out = lines::buffer();
     let mut at = 0;

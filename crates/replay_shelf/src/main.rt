@@ -15,13 +15,6 @@ const ROOM: usize = 4096;
 // What a buffer holds before. No record holds it throughout, so a refusal that wrote would show.
 const UNWRITTEN: u8 = 0xa5;
 
-// The lines take more than the 65,536 bytes of `io::large_buffer`.
-fn input() -> [u8; 131072]
-    ensures { λ r. ⌜ 131072 ≡ length r ⌝ }
-{
-    [0; 131072]
-}
-
 fn filled(b: u8) -> [u8; ROOM]
     ensures { λ r. ⌜ 4096 ≡ length r ⌝ }
 {
@@ -29,31 +22,6 @@ fn filled(b: u8) -> [u8; ROOM]
 }
 
 // ---- spellings
-
-// A hexadecimal digit's value, 0 for another byte.
-fn digit(b: u8) -> usize
-    ensures { λ r. ⌜ r < 16 ⌝ }
-{
-    match b {
-        b'0'..=b'9' => (b - b'0') as usize,
-        b'a'..=b'f' => (b - b'a') as usize + 10,
-        _ => 0,
-    }
-}
-
-fn two_digits(s: &[u8], at: usize) -> usize
-    requires { ⌜ at + 2 ≤ length (now s) ⌝ }
-    ensures { λ r. ⌜ r < 256 ⌝ }
-{
-    digit(s[at]) * 16 + digit(s[at + 1])
-}
-
-fn three_digits(s: &[u8], at: usize) -> usize
-    requires { ⌜ at + 3 ≤ length (now s) ⌝ }
-    ensures { λ r. ⌜ r < 4096 ⌝ }
-{
-    digit(s[at]) * 256 + two_digits(s, at + 1)
-}
 
 // Three digits behind a mark at `at`, or another length where they are missing.
 fn length_behind(s: &[u8], at: usize, other: usize) -> usize
@@ -63,44 +31,16 @@ fn length_behind(s: &[u8], at: usize, other: usize) -> usize
     if s.len() - at < 4 {
         return other;
     }
-    three_digits(s, at + 1)
-}
-
-// The place of the first such byte from `from` on, or the length.
-fn until(s: &[u8], from: usize, b: u8) -> usize
-    requires { ⌜ from ≤ length (now s) ⌝ }
-    ensures { λ r. ⌜ (from ≤ r) × (r ≤ length (now (s .entry))) ⌝ }
-{
-    let mut i = from;
-    while i < s.len() {
-        if s[i] == b {
-            return i;
-        }
-        i += 1;
-    }
-    i
-}
-
-// Behind a mark at `at`, each five digits are an offset and the byte to put there.
-fn change(bytes: &mut [u8], s: &[u8], at: usize)
-    requires { ⌜ at ≤ length (now s) ⌝ }
-{
-    let mut i = at;
-    while 6 <= s.len() - i {
-        let offset = three_digits(s, i + 1);
-        if bytes.len() <= offset {
-            return;
-        }
-        bytes[offset] = two_digits(s, i + 4) as u8;
-        i += 5;
-    }
+    lines::spelled::three_digits(s, at + 1)
 }
 
 // TEXT or TEXT!OOOVV.., in the first bytes of the buffer.
 fn spell_place(s: &[u8], bytes: &mut [u8]) {
-    let end = until(s, 0, b'!');
+    let end = lines::spelled::until(s, 0, b'!');
     lexicon::write_record(&s[0..end], true, bytes);
-    change(bytes, s, end);
+    if end < s.len() {
+        lines::spelled::change(bytes, &s[end + 1..]);
+    }
 }
 
 // These with commas between them, or nothing. Answers how many bytes the places take.
@@ -113,7 +53,7 @@ fn spell_places(s: &[u8], bytes: &mut [u8]) -> usize
         if bytes.len() - at < RECORD {
             return at;
         }
-        let end = until(s, from, b',');
+        let end = lines::spelled::until(s, from, b',');
         spell_place(&s[from..end], &mut bytes[at..]);
         at += RECORD;
         from = end + 1;
@@ -126,49 +66,12 @@ fn spell(s: &[u8], bytes: &mut [u8]) -> usize
     requires { ⌜ 4096 ≡ length (now bytes) ⌝ }
     ensures { λ r. ⌜ r ≤ 4096 ⌝ }
 {
-    let end = until(s, 0, b'#');
+    let end = lines::spelled::until(s, 0, b'#');
     let n = spell_places(&s[0..end], bytes);
     length_behind(s, end, n)
 }
 
 // ---- answers
-
-fn digest(bytes: &[u8]) -> u64
-    ensures { λ r. ⌜ r < 4294967296 ⌝ }
-{
-    let mut h: u64 = 0;
-    let mut i = 0;
-    while i < bytes.len() {
-        h = (h * 65599 + bytes[i] as u64) % 4294967291;
-        i += 1;
-    }
-    h
-}
-
-// A space and the digest.
-fn put_digest(out: &mut [u8], at: usize, bytes: &[u8]) -> usize
-    requires { ⌜ at + 9 ≤ length (now out) ⌝ }
-    ensures { λ r. ⌜ r ≤ at + 9 ⌝ }
-{
-    let mut digits = [0u8; 16];
-    let k = io::hex(digest(bytes), 8, &mut digits);
-    let to = lines::put(out, at, b' ');
-    lines::put_all(out, to, &digits[..k])
-}
-
-// `ok`, or `no` and the figures.
-fn put_answer(out: &mut [u8], at: usize, a: Answer) -> usize
-    requires { ⌜ at + 86 ≤ length (now out) ⌝ }
-    ensures { λ r. ⌜ r ≤ at + 86 ⌝ }
-{
-    match a {
-        Answer::Accepted => lines::put_all(out, at, b"ok"),
-        Answer::Refused(e) => {
-            let to = lines::put_all(out, at, b"no");
-            lines::put_numbers(out, to, cd::figures(e))
-        }
-    }
-}
 
 // How many places a shelf has.
 fn put_checked(out: &mut [u8], at: usize, c: Checked) -> usize
@@ -176,7 +79,7 @@ fn put_checked(out: &mut [u8], at: usize, c: Checked) -> usize
     ensures { λ r. ⌜ r ≤ at + 107 ⌝ }
 {
     let a = c.answer;
-    let to = put_answer(out, at, a);
+    let to = lines::spelled::put_outcome(out, at, a);
     match a {
         Answer::Accepted => lines::put_number(out, to, b' ', c.places as u64),
         Answer::Refused(_) => to,
@@ -193,7 +96,7 @@ fn put_found(out: &mut [u8], at: usize, f: Found) -> usize
     ensures { λ r. ⌜ r ≤ at + 128 ⌝ }
 {
     let a = f.answer;
-    let mut to = put_answer(out, at, a);
+    let mut to = lines::spelled::put_outcome(out, at, a);
     match a {
         Answer::Accepted => {
             to = lines::put_number(out, to, b' ', flag(f.present));
@@ -209,7 +112,7 @@ fn put_added(out: &mut [u8], at: usize, r: Added) -> usize
     ensures { λ to. ⌜ to ≤ at + 107 ⌝ }
 {
     let a = r.answer;
-    let to = put_answer(out, at, a);
+    let to = lines::spelled::put_outcome(out, at, a);
     match a {
         Answer::Accepted => lines::put_number(out, to, b' ', r.place as u64),
         Answer::Refused(_) => to,
@@ -251,7 +154,7 @@ fn written(file: &[u8], bytes: &[u8], n: usize, out: &mut [u8], at: usize) -> us
     let mut buffer = filled(UNWRITTEN);
     let r = shelf::add(file, bytes, &mut buffer[0..n]);
     let to = put_added(out, at, r);
-    put_digest(out, to, &buffer)
+    lines::spelled::put_digest(out, to, &buffer)
 }
 
 // What all four calls answer.
@@ -270,7 +173,7 @@ fn answered(file: &[u8], s: &[u8], from: usize, out: &mut [u8], at: usize) -> us
     requires { ⌜ (from ≤ length (now s)) × (at + 482 ≤ length (now out)) ⌝ }
     ensures { λ r. ⌜ r ≤ at + 482 ⌝ }
 {
-    let end = until(s, from, b'|');
+    let end = lines::spelled::until(s, from, b'|');
     let mut bytes = filled(0);
     let n = spell(&s[from..end], &mut bytes);
     called(file, &bytes[0..n], length_behind(s, end, 0), out, at)
@@ -281,7 +184,7 @@ fn answer(s: &[u8], out: &mut [u8], at: usize) -> usize
     requires { ⌜ at + 482 ≤ length (now out) ⌝ }
     ensures { λ r. ⌜ r ≤ at + 482 ⌝ }
 {
-    let end = until(s, 0, b'|');
+    let end = lines::spelled::until(s, 0, b'|');
     if end == s.len() {
         return at;
     }
@@ -299,7 +202,7 @@ fn line(s: &[u8], out: &mut [u8], at: usize) -> usize
 }
 
 fn main() {
-    let mut text = input();
+    let mut text = lines::large_input();
     let n = lines::read_input(&mut text);
     let mut out = lines::buffer();
     let mut at = 0;

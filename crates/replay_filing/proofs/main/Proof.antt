@@ -13,8 +13,8 @@ Inv-loop text n out₀ at₀ from₀ out at from = (at ≤ 8192) × (16384 ≡ l
 abbrev μ-loop : tie.MeasureT-loop
 μ-loop text n out₀ at₀ from₀ out at from = n - from
 
-input-requires : tie.Need-input-requires Inv-loop μ-loop
-input-requires c κs = search needs
+large-input-requires : tie.Need-large-input-requires Inv-loop μ-loop
+large-input-requires c κs = search needs
 
 slice-aggregate-read-input : tie.Need-slice-aggregate-read-input Inv-loop μ-loop
 slice-aggregate-read-input c = search needs
@@ -85,7 +85,7 @@ main-spec =
     (tie.spec
     Inv-loop
     μ-loop
-    input-requires
+    large-input-requires
     slice-aggregate-read-input
     read-input-requires
     buffer-requires

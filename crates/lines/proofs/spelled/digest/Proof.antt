@@ -1,10 +1,10 @@
--- `replay_shelf::digest` meets its contract: what is left by the modulus never overflows. Assumes nothing.
+-- `lines::spelled::digest` meets its contract: what is left by the modulus never overflows. Assumes nothing.
 use Prim.Native.Nat.{_<_, _-_}
 use native.Mathlib.Omega.{arith}
 use lib.ListN.{length}
 use borrow.Author.Needs.{needs}
-use Rattle.replay_shelf.proofs.digest.Statement.{statement}
-use Rattle.replay_shelf.proofs.digest.Tie as tie
+use Rattle.lines.proofs.spelled.digest.Statement.{statement}
+use Rattle.lines.proofs.spelled.digest.Tie as tie
 
 abbrev Inv-loop : tie.InvT-loop
 Inv-loop bytes h₀ i₀ h i = h < 4294967291

@@ -1,9 +1,9 @@
--- `replay_shelf::until` meets its contract. Assumes nothing.
+-- `lines::spelled::until` meets its contract. Assumes nothing.
 use Prim.Native.Nat.{_≤_, _-_}
 use lib.ListN.{length}
 use borrow.Author.Needs.{needs}
-use Rattle.replay_shelf.proofs.until.Statement.{statement}
-use Rattle.replay_shelf.proofs.until.Tie as tie
+use Rattle.lines.proofs.spelled.until.Statement.{statement}
+use Rattle.lines.proofs.spelled.until.Tie as tie
 
 abbrev Inv-loop : tie.InvT-loop
 Inv-loop s from b i₀ i = (from ≤ i) × (i ≤ length s)

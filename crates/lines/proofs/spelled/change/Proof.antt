@@ -1,10 +1,10 @@
--- `replay_filing::change` is safe and ends. The invariant: the buffer keeps its length. Assumes nothing.
+-- `lines::spelled::change` is safe and ends. The invariant: the buffer keeps its length. Assumes nothing.
 use Prim.Native.Nat.{_≤_, _-_}
 use mathlib.Core.Path.{_≡_}
 use lib.ListN.{length}
 use borrow.Author.Needs.{needs}
-use Rattle.replay_filing.proofs.change.Statement.{statement}
-use Rattle.replay_filing.proofs.change.Tie as tie
+use Rattle.lines.proofs.spelled.change.Statement.{statement}
+use Rattle.lines.proofs.spelled.change.Tie as tie
 
 abbrev Inv-loop : tie.InvT-loop
 Inv-loop bytes₀ digits i₀ bytes i = (i ≤ length digits) × (length bytes ≡ length bytes₀)

@@ -1,10 +1,10 @@
--- `replay_shelf::put_digest` meets its contract: eight digits hold every digest. Assumes nothing.
+-- `lines::spelled::put_digest` meets its contract: eight digits hold every digest. Assumes nothing.
 use native.Mathlib.Nat.{zero-lt-suc}
 use native.Mathlib.Omega.{arith}
 use Rattle.lines.proofs.Decimals.{few-digits}
 use borrow.Author.Needs.{needs}
-use Rattle.replay_shelf.proofs.put_digest.Statement.{statement}
-use Rattle.replay_shelf.proofs.put_digest.Tie as tie
+use Rattle.lines.proofs.spelled.put_digest.Statement.{statement}
+use Rattle.lines.proofs.spelled.put_digest.Tie as tie
 
 put-all-requires : tie.Need-put-all-requires
 put-all-requires c κs =
