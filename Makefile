@@ -2,7 +2,7 @@
 # make lib: the library for C and Rust. make callers: the programs in C and the Rust crate over it.
 # make programs: cdlist and cdfile where reading or writing fails, and with arguments. make run: cdfile on standard input, or on a sample where that is a terminal;
 # ARGUMENT=--infinite for the wish for infinite lengths. make list: cdlist likewise.
-# make compare: the comparisons alone, with more pairs; SEED=7 TEXTS=100000000 PAIRS=0 for a seed and counts of one's own.
+# make compare: the comparisons alone, with more pairs; SEED=7 TEXTS=100000000 PAIRS=0 FILES=0 for a seed and counts of one's own.
 # make claims: docs/CLAIMS.md against the crates. make bench: the table of docs/BENCHMARKS.md.
 # Everything is built into target/.
 
@@ -15,10 +15,11 @@ LIB = target/staticlib
 
 .PHONY: test lib libs callers programs compare beside models oracle claims run list bench
 
-# The seed of the texts and pairs by chance, and how many.
+# The seed of the texts, pairs and shelf files by chance, and how many.
 SEED := $(shell date +%Y%m%d)
 TEXTS = 1000000
 PAIRS = 1000000
+FILES = 100000
 
 # `rt ci` removes target/ and proves from nothing; what follows runs on what it has proved. Its output is kept in target/ci.log, and its last line, the
 # verdict, is said again only if all passed.
@@ -61,7 +62,7 @@ compare: beside models
 beside: libs oracle
 	@$(CC) $(CFLAGS) -O2 -o target/float oracle/float.c $(LIB)/libfloat_c.a -lm
 	@target/float $(SEED)
-	@oracle/compare $(SEED) $(TEXTS) $(PAIRS)
+	@oracle/compare $(SEED) $(TEXTS) $(PAIRS) $(FILES)
 
 # The models in Python, the Rust and the stored answers.
 models: oracle
@@ -79,7 +80,7 @@ claims:
 	@docs/check_claims.py
 
 # At -O3, as rt compiles. The plain C of the root and the cosine may call nothing: its root is the machine's instruction.
-BENCH = bench.c timing.c reading.c figure.c filing.c filing_plain.c cox.c float.c
+BENCH = bench.c timing.c reading.c figure.c filing.c filing_plain.c shelf.c shelf_figures.c cox.c float.c
 bench: libs oracle
 	@python3 oracle/corpus.py long >target/long.txt
 	@$(CC) $(CFLAGS) -O3 -fno-math-errno -c -o target/float_plain.o bench/float_plain.c

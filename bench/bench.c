@@ -15,6 +15,7 @@ int main(int argc, char **argv)
     put_head();
     reading_rows(argv[1]);
     filing_rows();
+    shelf_rows();
     cox_rows();
     float_rows();
 #ifndef NAUTY

@@ -5,6 +5,7 @@
 // The file holds the long texts that `oracle/corpus.py long` writes.
 void reading_rows(const char *path);
 void filing_rows(void);
+void shelf_rows(void);
 void cox_rows(void);
 void float_rows(void);
 

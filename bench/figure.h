@@ -26,6 +26,9 @@ int compare_nodes(const struct figure *f, int a, int b);
 // Lays out the record's 370 bytes with node numbering[i] in place i.
 void lay_out(const struct figure *f, const int *numbering, uint8_t *out);
 
+// Reads the figure that 370 bytes lay out in their own numbering; 0 if they are no figure's layout, 1 if they are.
+int read_layout(const uint8_t *bytes, struct figure *f);
+
 // How many numberings the plain C search carries to the end.
 uint64_t count_plain(const char *text);
 
@@ -33,5 +36,8 @@ uint64_t count_plain(const char *text);
 // numbering (only where NAUTY is defined).
 void file_plain(const char *text, uint8_t *out, size_t *numbering);
 void file_nauty(const char *text, uint8_t *out, size_t *numbering);
+
+// Whether 370 bytes are a record: a layout, and by that search the smallest.
+int is_record_plain(const uint8_t *bytes);
 
 #endif

@@ -1,7 +1,8 @@
 //! Compares the port, the library for C (include/lexicon.h), with the unchanged Rust and with document 01, in one process.
 //!
 //! * `compare texts SEED COUNT`: fixed texts, COUNT by chance, and all families, beside the Rust (beside.rs);
-//! * `compare pairs SEED COUNT`: COUNT figures and their records (pairs.rs).
+//! * `compare pairs SEED COUNT`: COUNT figures and their records (pairs.rs);
+//! * `compare shelves SEED COUNT`: COUNT shelf files and records to be found in them and added (shelves.rs).
 //!
 //! `--threads N` takes N threads in place of two; what is compared is the same. Exit status: 0 nothing differs, 1 something
 //! does, 2 it was called otherwise.
@@ -18,6 +19,10 @@ mod pairs;
 mod port;
 mod records;
 mod run;
+mod shelf_files;
+mod shelf_model;
+mod shelf_port;
+mod shelves;
 mod spelling;
 mod texts;
 
@@ -26,10 +31,14 @@ use std::{env, process::ExitCode};
 fn main() -> ExitCode {
     let args: Vec<String> = env::args().collect();
     let Some((mode, seed, count, threads)) = parsed(&args[1..]) else {
-        eprintln!("usage: compare texts|pairs SEED COUNT [--threads N]");
+        eprintln!("usage: compare texts|pairs|shelves SEED COUNT [--threads N]");
         return ExitCode::from(2);
     };
-    let code = if mode == "texts" { beside::run(seed, count, threads) } else { pairs::run(seed, count, threads) };
+    let code = match mode {
+        "texts" => beside::run(seed, count, threads),
+        "pairs" => pairs::run(seed, count, threads),
+        _ => shelves::run(seed, count, threads),
+    };
     println!("to repeat: {} {mode} {seed} {count}", args[0]);
     code
 }
@@ -41,6 +50,6 @@ fn parsed(args: &[String]) -> Option<(&str, u64, u64, usize)> {
         [_, _, flag, threads] if flag == "--threads" => threads.parse().ok().filter(|&threads| threads > 0)?,
         _ => return None,
     };
-    let known = mode == "texts" || mode == "pairs";
+    let known = ["texts", "pairs", "shelves"].contains(&mode.as_str());
     Some((mode.as_str(), rest[0].parse().ok()?, rest[1].parse().ok()?, threads)).filter(|_| known)
 }

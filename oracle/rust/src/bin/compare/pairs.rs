@@ -253,8 +253,8 @@ fn no_layout(dice: &mut Dice, layout: &[u8; RECORD]) -> [u8; RECORD] {
 }
 
 /// One byte changed, mostly among those that tell something, a little or wholly.
-fn damage(dice: &mut Dice, bytes: &mut [u8; RECORD]) {
-    let count = usize::from(bytes[0]);
+pub fn damage(dice: &mut Dice, bytes: &mut [u8; RECORD]) {
+    let count = usize::from(bytes[0]).min(LIMIT);
     let at = match dice.below(16) {
         0 => 0,
         1 => dice.below(RECORD),

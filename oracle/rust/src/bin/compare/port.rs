@@ -135,7 +135,7 @@ const GUARD: usize = 8;
 pub const SPARE: usize = 8;
 
 /// A buffer to lend, of which `GUARD + len + GUARD` elements are in use.
-struct Lent<T> {
+pub struct Lent<T> {
     pattern: Vec<T>,
     window: usize,
     len: usize,
@@ -143,21 +143,21 @@ struct Lent<T> {
 }
 
 impl<T: Copy + PartialEq + Default> Lent<T> {
-    fn new(most: usize, pattern: impl Fn(u64) -> T) -> Self {
+    pub fn new(most: usize, pattern: impl Fn(u64) -> T) -> Self {
         let mut dice = Dice::new(0, 0);
         let room = GUARD + most + SPARE + GUARD;
         let pattern = (0..WINDOWS + room).map(|_| pattern(dice.next())).collect();
         Self { pattern, window: 0, len: 0, at: vec![T::default(); room] }
     }
 
-    fn fill(&mut self, window: usize, len: usize) {
+    pub fn fill(&mut self, window: usize, len: usize) {
         (self.window, self.len) = (window % WINDOWS, len);
         let used = GUARD + len + GUARD;
         self.at[..used].copy_from_slice(&self.pattern[self.window..self.window + used]);
     }
 
     /// Null if nothing is lent.
-    fn pointer(&mut self) -> *mut T {
+    pub fn pointer(&mut self) -> *mut T {
         if self.len == 0 {
             std::ptr::null_mut()
         } else {
@@ -165,12 +165,12 @@ impl<T: Copy + PartialEq + Default> Lent<T> {
         }
     }
 
-    fn lent(&self) -> &[T] {
+    pub fn lent(&self) -> &[T] {
         &self.at[GUARD..GUARD + self.len]
     }
 
     /// Whether all but the first elements lent, and the guards, are as they were filled.
-    fn kept_past(&self, written: usize) -> bool {
+    pub fn kept_past(&self, written: usize) -> bool {
         let (used, from) = (GUARD + self.len + GUARD, GUARD + written);
         let pattern = &self.pattern[self.window..self.window + used];
         self.at[..GUARD] == pattern[..GUARD] && self.at[from..used] == pattern[from..]
@@ -295,7 +295,7 @@ impl Port {
     }
 }
 
-fn kept(all: bool) -> &'static str {
+pub fn kept(all: bool) -> &'static str {
     if all {
         ""
     } else {
@@ -320,7 +320,7 @@ pub fn bits(doubles: &[f64]) -> &[u64] {
 }
 
 /// An empty input has a null pointer.
-fn input(bytes: &[u8]) -> *const u8 {
+pub fn input(bytes: &[u8]) -> *const u8 {
     if bytes.is_empty() {
         std::ptr::null()
     } else {
