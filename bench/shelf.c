@@ -89,6 +89,12 @@ static uint8_t *record_at(const struct shelf *shelf, size_t place)
     return shelf->file + place * RECORD;
 }
 
+// The record at a place of the shelf without LEFT_OUT, apart from that file: the header lets nothing overlap.
+static const uint8_t *record_apart(size_t place)
+{
+    return record_at(&all, place < LEFT_OUT ? place : place + 1);
+}
+
 static void demand_check(checker *check, const struct shelf *shelf, size_t number, size_t first)
 {
     size_t answer[LEXICON_ANSWER];
@@ -143,20 +149,20 @@ static void check_left_out(size_t place)
 static void check_present(void)
 {
     for (size_t place = 0; place < PLACES; place += 100) {
-        const uint8_t *record = record_at(&most, place);
+        const uint8_t *record = record_apart(place);
         struct shelf part = {record_at(&most, place - place % 1000), 1000};
         demand_place(lexicon_shelf_bisect, &most, record, 1, place);
         demand_place(bisect_plain, &most, record, 1, place);
         demand_place(lexicon_shelf_find, &part, record, 1, place % 1000);
     }
     for (size_t place = 0; place < PLACES; place += 1000)
-        demand_place(lexicon_shelf_find, &most, record_at(&most, place), 1, place);
-    demand_place(find_plain, &most, record_at(&most, 0), 1, 0);
+        demand_place(lexicon_shelf_find, &most, record_apart(place), 1, place);
+    demand_place(find_plain, &most, record_apart(0), 1, 0);
 }
 
 static void check_added_twice(size_t place)
 {
-    demand_add(record_at(&most, place), room, 20, place, 0);
+    demand_add(record_apart(place), room, 20, place, 0);
 }
 
 // With other bytes at a place both checks must tell that place.
@@ -215,7 +221,7 @@ static void run_seek(const void *input, uint64_t turns)
     size_t answer[LEXICON_ANSWER], sum = 0;
     for (uint64_t n = 0; n < turns; n++)
         for (size_t place = 0; place < most.places; place += s->apart) {
-            s->seek(most.file, most.places * RECORD, record_at(&most, place), RECORD, answer);
+            s->seek(most.file, most.places * RECORD, record_apart(place), RECORD, answer);
             sum += answer[2];
         }
     kept = sum;

@@ -8,7 +8,6 @@ use mathlib.Core.Path.{_≡_, sym, ap, _∙_, subst₂}
 use Prim.Native.Nat.{ℕ, _≤_, _<_}
 use lib.ListN.{length, take}
 use Rattle.cd.specs.Diagrams.{Stored, limit}
-use Rattle.cd.specs.declared.CdError.{CdError}
 use Rattle.cd.specs.declared.CdError.the-variants.{ShortBuffer}
 use Rattle.cd.specs.declared.Node.{Node}
 use Rattle.filing.specs.Diagrams.{Carries, Iso}

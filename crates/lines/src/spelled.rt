@@ -14,7 +14,7 @@ fn digit(b: u8) -> usize
     }
 }
 
-pub fn two_digits(s: &[u8], at: usize) -> usize
+fn two_digits(s: &[u8], at: usize) -> usize
     requires { ⌜ at + 2 ≤ length (now s) ⌝ }
     ensures { λ r. ⌜ r < 256 ⌝ }
 {
