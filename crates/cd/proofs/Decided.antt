@@ -1,5 +1,5 @@
 -- Tests that decide a statement, and a loop that decides it for all numbers below a bound. Assumes nothing.
-use mathlib.Core.Bool.{Bool, true, false, true≢false}
+use mathlib.Core.Bool.{Bool, true, false, not, true≢false}
 use mathlib.Core.Path.{_≡_, refl, sym, _∙_}
 use Prim.Native.Nat.{ℕ, _<_}
 use Rattle.cd.specs.Minimal.{Decides}
@@ -21,6 +21,10 @@ refutes d e p = true≢false (sym (d .when p) ∙ e)
 
 pub decides-same : {P Q : Type 0} {r : Bool} → (P → Q) → (Q → P) → Decides P r → Decides Q r
 decides-same to from d = record { only-when = λ e. to (d .only-when e); when = λ q. d .when (from q) }
+
+pub decides-not : {P : Type 0} {r : Bool} → Decides P r → Decides (P → ⊥) (not r)
+decides-not {r = true} d = decides-no (λ n. n (d .only-when refl))
+decides-not {r = false} d = decides-yes (refutes d refl)
 
 -- it fails at one of the numbers below n
 pub decides-not-all : (P : ℕ → Type 0) {i n : ℕ} {r : Bool} → i < n → Decides (P i) r → r ≡ false → Decides ((k : ℕ) → k < n → P k) false

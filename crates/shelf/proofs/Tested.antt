@@ -1,6 +1,6 @@
 -- A part of a file as the code cuts it is a place, and the tests of a place decide what the check asks of it. What an answer of the reader of records tells of the
 -- bytes. Assumes nothing.
-use mathlib.Core.Bool.{Bool, true, false, not}
+use mathlib.Core.Bool.{Bool, not}
 use mathlib.Core.List.{List}
 use mathlib.Core.Logic.{_≢_}
 use mathlib.Core.Path.{_≡_, refl, sym, ap, ap₂, _∙_, subst, subst₂}
@@ -13,7 +13,7 @@ use Rattle.cd.specs.Diagrams.{Stored, limit}
 use Rattle.cd.specs.Minimal.{Decides}
 use Rattle.cd.specs.declared.CdError.{CdError}
 use Rattle.cd.specs.declared.Node.{Node}
-use Rattle.cd.proofs.Decided.{decides-yes, decides-no, refutes, decides-same}
+use Rattle.cd.proofs.Decided.{decides-same, decides-not}
 use Rattle.filing.specs.Bytes.{_≼_}
 use Rattle.filing.specs.Readable.{Readable}
 use Rattle.filing.specs.Records.{recordLength}
@@ -70,10 +70,6 @@ part-before w l j =
 
 -- ---- a place tested
 
-decides-not : {P : Type 0} {r : Bool} → Decides P r → Decides (P → ⊥) (not r)
-decides-not {r = true} d = decides-no (λ n. n (d .only-when refl))
-decides-not {r = false} d = decides-yes (refutes d refl)
-
 module _ (N : ℕ) (l : List ℕ) where
   abbrev w : ℕ
   w = recordLength N
@@ -98,8 +94,8 @@ module _ (N : ℕ) (l : List ℕ) where
 -- ---- a step of bisection, as the code takes it
 
 module _ {N : ℕ} {l x : List ℕ} {low high p : ℕ} where
-  pub narrow-front : low < high → x ≼ part (recordLength N) l (middle low high) → Bisection N l x low (middle low high) p → Bisection N l x low high p
-  narrow-front h k b = in-front h (rw (part-place (recordLength N) l (middle low high)) at k) b
+  pub step-in-front : low < high → x ≼ part (recordLength N) l (middle low high) → Bisection N l x low (middle low high) p → Bisection N l x low high p
+  step-in-front h k b = in-front h (rw (part-place (recordLength N) l (middle low high)) at k) b
 
-  pub narrow-behind : low < high → (x ≼ part (recordLength N) l (middle low high) → ⊥) → Bisection N l x (middle low high + 1) high p → Bisection N l x low high p
-  narrow-behind h k b = behind h (subst (λ z. z ≺ x) (part-place (recordLength N) l (middle low high)) k) (rw add-one at b)
+  pub step-behind : low < high → (x ≼ part (recordLength N) l (middle low high) → ⊥) → Bisection N l x (middle low high + 1) high p → Bisection N l x low high p
+  step-behind h k b = behind h (subst (λ z. z ≺ x) (part-place (recordLength N) l (middle low high)) k) (rw add-one at b)
