@@ -185,6 +185,67 @@ impl CdError {
         }
     }
 
+    /// The fields of this refusal in the specification's order, which is that of the case's: for
+    /// [`InvalidEdge`](Self::InvalidEdge) the numerator, the denominator and the position.
+    ///
+    /// ```
+    /// use lexicon::Cd;
+    ///
+    /// assert_eq!(Cd::parse("x1o").unwrap_err().fields(), [1, 1, 1]);
+    /// ```
+    #[must_use]
+    pub fn fields(&self) -> Vec<usize> {
+        match *self {
+            Self::TooLong { pos }
+            | Self::NotAscii { pos }
+            | Self::MismatchedParenthesis { pos }
+            | Self::UnexpectedEnding { pos }
+            | Self::ParseError { pos }
+            | Self::InvalidSymbol { pos }
+            | Self::OutOfRange { pos }
+            | Self::TooManyNodes { pos }
+            | Self::InfiniteLength { pos } => vec![pos],
+            Self::InvalidEdge { num, den, pos } => vec![num as usize, den as usize, pos],
+            Self::RepeatEdge { a, b } => vec![a, b],
+            Self::MissingNode { edge } => vec![edge],
+            Self::Crowded { column } => vec![column],
+            Self::Infinite { node } => vec![node],
+            Self::ShelfPlace { place } | Self::OnShelf { place } => vec![place],
+            Self::ShortBuffer
+            | Self::RecordLength
+            | Self::NoDiagram
+            | Self::NoFamily
+            | Self::ShelfLength
+            | Self::NotSmallest => vec![],
+        }
+    }
+
+    /// The position in the text that this refusal tells, counted in bytes from 0. Of the refusals of
+    /// texts only [`RepeatEdge`](Self::RepeatEdge) and [`MissingNode`](Self::MissingNode) tell none.
+    ///
+    /// ```
+    /// use lexicon::Cd;
+    ///
+    /// assert_eq!(Cd::parse("x3_").unwrap_err().position(), Some(2));
+    /// assert_eq!(Cd::parse("x3o3*a").unwrap_err().position(), None);
+    /// ```
+    #[must_use]
+    pub fn position(&self) -> Option<usize> {
+        match *self {
+            Self::TooLong { pos }
+            | Self::NotAscii { pos }
+            | Self::MismatchedParenthesis { pos }
+            | Self::UnexpectedEnding { pos }
+            | Self::ParseError { pos }
+            | Self::InvalidSymbol { pos }
+            | Self::InvalidEdge { pos, .. }
+            | Self::OutOfRange { pos }
+            | Self::TooManyNodes { pos }
+            | Self::InfiniteLength { pos } => Some(pos),
+            _ => None,
+        }
+    }
+
     /// The refusal that the library tells by its number and fields.
     pub(crate) fn from_numbers([number, a, b, c]: [usize; 4]) -> Self {
         match number {

@@ -1,0 +1,237 @@
+//! The command line.
+
+use std::{ffi::OsString, path::PathBuf};
+
+use clap::{builder::PossibleValuesParser, value_parser, Arg, ArgAction, Command};
+
+const ABOUT: &str = "Keeps the headwords of a lexicon of polytopes, which are Coxeter diagrams typed as lines of text";
+
+const AFTER: &str = "\
+Nodes are named as the notation's references name them: a is the first that was typed, b the second.
+Every answer about a text, a record or a shelf is one of the proved library's.
+
+Exit status: 0 if nothing is wrong, 1 if something is, 2 if the work could not be done.
+
+`lexicon help COMMAND` tells more of a command, with an example.";
+
+const CHECK: &str = "\
+Each line of a file is a headword, an empty line too; LF or CR LF ends it. Each headword that is
+refused is told as FILE:LINE:COLUMN, then each group of lines that are one figure, a line for each
+with its nodes in corresponding order, then the totals. `-` is standard input.
+
+Exit status: 0 if nothing is wrong, 1 if a headword is refused or stands twice, 2 for a failure.
+
+Example:
+  $ printf 'x3o4o\\no4o3x\\n' | lexicon check -
+  2 lines are one figure, their nodes in corresponding order:
+    -:1: x3o4o  a b c
+    -:2: o4o3x  c b a
+  2 lines: 2 accepted, 0 refused; 1 figure, 1 of them more than once";
+
+const SAME: &str = "\
+Exit status: 0 for one figure, 1 for two, 2 if a text is refused.
+
+Example:
+  $ lexicon same x3o4o o4o3x
+  one figure, its nodes in corresponding order:
+    x3o4o  a b c
+    o4o3x  c b a";
+
+const SHOW: &str = "\
+The text's nodes stand on a line as they were typed, with the edges between neighbours; other edges
+hang below it.
+
+Exit status: 0, 1 if the text is refused, 2 for a failure.
+
+Example:
+  $ lexicon show x5/2o3o";
+
+const DRAW: &str = "\
+A ringed node is a dot with a ring, an unringed one a dot, a snub one an open circle. A length other
+than 1 is written at its node, a number other than 3 at its edge. Spellings of one figure are drawn
+alike but for loops.
+
+Exit status: 0, 1 if the text is refused, 2 for a failure.
+
+Example:
+  $ lexicon draw 'o3o3o3o3o3x *c3o' -o e7.svg";
+
+const RECORD: &str = "\
+On each text a line: `ok`, the record's 740 hexadecimal digits and the numbering that gives it, or
+`no`, the refusal's number and its fields. On standard input LF alone ends a line.
+
+Exit status: 0, 1 if a text is refused, 2 for a failure.
+
+Example:
+  $ printf 'x3o4o\\nx1o\\n' | lexicon record | cut -c 1-20
+  ok 03010000000000000
+  no 7 1 1 1";
+
+const SHELF: &str = "\
+A shelf has the record of each article, 370 bytes, each greater than the one before. Places are
+counted from 0.
+
+Exit status: 0; 1 for refused, not found or already there; 2 for a failure.";
+
+const SHELF_CHECK: &str = "\
+Example:
+  $ lexicon shelf check articles.shelf
+  articles.shelf: 214 places";
+
+const SHELF_FIND: &str = "\
+Example:
+  $ lexicon shelf find articles.shelf o4o3x
+  o4o3x: place 17";
+
+const SHELF_ADD: &str = "\
+All texts are added in one replacement of the file, or none is. Whatever happens, the file is the old
+shelf or the new one.
+
+Example:
+  $ lexicon shelf add articles.shelf x3o4o x5o3o
+  x3o4o: added, place 17
+  x5o3o: added, place 21
+  articles.shelf: 216 places";
+
+const SHELF_LIST: &str = "\
+Example:
+  $ lexicon shelf list articles.shelf";
+
+const SHELF_MAKE: &str = "\
+Each line of standard input is a text; LF or CR LF ends it. A figure that stands twice is told, and
+kept once; if a text is refused, it is told, and no file is made. FILE must not be there.
+
+Example:
+  $ lexicon shelf make articles.shelf <headwords.txt";
+
+/// The whole command line.
+pub fn command() -> Command {
+    Command::new("lexicon")
+        .version(clap::crate_version!())
+        .about(ABOUT)
+        .after_help(AFTER)
+        .subcommand_required(true)
+        .arg_required_else_help(true)
+        .subcommand(check())
+        .subcommand(
+            of_texts("same", "Tells whether two texts are one figure", SAME)
+                .arg(text("A", "A text"))
+                .arg(text("B", "Another")),
+        )
+        .subcommand(show())
+        .subcommand(draw())
+        .subcommand(
+            of_texts("record", "Writes records, line by line", RECORD)
+                .arg(text("TEXT", "A text, or - for standard input").required(false))
+                .arg(flag("raw", "Write the records' bytes, and of refusals nothing")),
+        )
+        .subcommand(shelf())
+}
+
+fn check() -> Command {
+    of_texts("check", "Finds the headwords that are wrong or stand twice", CHECK)
+        .arg(
+            Arg::new("FILE")
+                .required(true)
+                .action(ArgAction::Append)
+                .num_args(1..)
+                .value_parser(value_parser!(PathBuf))
+                .help("Lists of headwords, or - for standard input"),
+        )
+        .arg(flag(
+            "notes",
+            "Take what follows a line's first tab for a note, which is shown with it",
+        ))
+        .arg(
+            Arg::new("format")
+                .long("format")
+                .value_name("FORMAT")
+                .value_parser(PossibleValuesParser::new(["text", "json"]))
+                .default_value("text")
+                .help("json: one JSON document a finding"),
+        )
+}
+
+fn show() -> Command {
+    of_texts("show", "Shows a text's diagram", SHOW)
+        .arg(text("TEXT", "A text"))
+        .arg(flag(
+            "geometry",
+            "Show the matrix, the mirrors, the generator and its radius too",
+        ))
+        .arg(flag("bits", "Show numbers as the 64 bits of a double, in hexadecimal").requires("geometry"))
+}
+
+fn draw() -> Command {
+    of_texts("draw", "Draws a text's diagram as an SVG", DRAW)
+        .arg(text("TEXT", "A text"))
+        .arg(
+            Arg::new("output")
+                .short('o')
+                .long("output")
+                .value_name("FILE.svg")
+                .required(true)
+                .value_parser(value_parser!(PathBuf))
+                .help("The file that is written, or - for standard output"),
+        )
+}
+
+fn shelf() -> Command {
+    Command::new("shelf")
+        .about("Keeps a file of records")
+        .after_help(SHELF)
+        .subcommand_required(true)
+        .arg_required_else_help(true)
+        .subcommand(
+            Command::new("check")
+                .about("Checks a shelf file")
+                .after_help(SHELF_CHECK)
+                .arg(file()),
+        )
+        .subcommand(
+            of_texts("find", "Tells at which places texts are", SHELF_FIND)
+                .arg(file())
+                .arg(text("TEXT", "The texts").num_args(1..)),
+        )
+        .subcommand(
+            of_texts("add", "Adds texts", SHELF_ADD)
+                .arg(file())
+                .arg(text("TEXT", "The texts").num_args(1..)),
+        )
+        .subcommand(
+            Command::new("list")
+                .about("Lists what each place holds")
+                .after_help(SHELF_LIST)
+                .arg(file()),
+        )
+        .subcommand(of_texts("make", "Makes a new shelf file of a list", SHELF_MAKE).arg(file()))
+}
+
+/// A command that reads texts.
+fn of_texts(name: &'static str, about: &'static str, after: &'static str) -> Command {
+    Command::new(name)
+        .about(about)
+        .after_help(after)
+        .arg(flag("infinite", "Take infinite lengths, such as (inf)"))
+}
+
+fn text(name: &'static str, help: &'static str) -> Arg {
+    Arg::new(name)
+        .required(true)
+        .value_parser(value_parser!(OsString))
+        .help(help)
+}
+
+fn file() -> Arg {
+    Arg::new("FILE")
+        .required(true)
+        .value_parser(value_parser!(PathBuf))
+        .help("The shelf file")
+}
+
+fn flag(name: &'static str, help: &'static str) -> Arg {
+    Arg::new(name)
+        .long(name)
+        .action(ArgAction::SetTrue)
+        .help(help)
+}
