@@ -1,7 +1,7 @@
-# make test: `rt ci`, then the library's callers, the programs, the comparisons and the claims on what it has proved.
-# make lib: the library for C and Rust. make callers: the programs in C and the Rust crate over it.
-# make programs: cdlist and cdfile where reading or writing fails, and with arguments. make run: cdfile on standard input, or on a sample where that is a terminal;
-# ARGUMENT=--infinite for the wish for infinite lengths. make list: cdlist likewise.
+# make test: `rt ci`, then the library's callers, the command, the program cdlist, the comparisons and the claims on what it has proved.
+# make run: the command `lexicon check` on a sample. make cli: the command, target/cli/release/lexicon. make lib: the library for C and Rust.
+# make callers: the programs in C and the Rust crate over the library. make command: the command's tests, and 100,000 texts beside the library.
+# make programs: cdlist where reading or writing fails, and with arguments. make list: cdlist on standard input, or on a sample where that is a terminal.
 # make compare: the comparisons alone, with more pairs; SEED=7 TEXTS=100000000 PAIRS=0 FILES=0 for a seed and counts of one's own.
 # make claims: docs/CLAIMS.md against the crates. make bench: the table of docs/BENCHMARKS.md.
 # Everything is built into target/.
@@ -13,7 +13,7 @@ CC = gcc
 CFLAGS = -std=c11 -Wall -Wextra -ffp-contract=off
 LIB = target/staticlib
 
-.PHONY: test lib libs callers programs compare beside models oracle claims run list bench
+.PHONY: test lib libs callers cli command programs compare beside models oracle claims run list bench
 
 # The seed of the texts, pairs and shelf files by chance, and how many.
 SEED := $(shell date +%Y%m%d)
@@ -25,7 +25,7 @@ FILES = 100000
 # verdict, is said again only if all passed.
 test:
 	@log=$$(mktemp); rt ci 2>&1 | tee $$log; status=$$?; mkdir -p target; mv $$log target/ci.log; exit $$status
-	@$(MAKE) --no-print-directory -j2 -O callers programs compare claims PAIRS=100000
+	@$(MAKE) --no-print-directory -j2 -O callers command programs compare claims PAIRS=100000
 	@tail -n 1 target/ci.log
 
 lib: libs
@@ -45,16 +45,27 @@ callers: libs
 	@target/example | diff bindings/c/example.stdout -
 	@cd bindings/rust && unset MAKEFLAGS LEXICON_LIB && cargo clippy --offline --quiet --all-targets -- -D warnings && cargo test --offline --quiet
 
+# The editor's command, over the Rust crate and Debian's crates.
+cli: libs
+	@cli/packages
+	@cd cli && unset MAKEFLAGS LEXICON_LIB && cargo build --offline --quiet --release
+
+run: cli
+	@target/cli/release/lexicon check --notes cli/sample.txt || [ $$? = 1 ]
+
+command: cli
+	@cd cli && unset MAKEFLAGS LEXICON_LIB && cargo clippy --offline --quiet --release --all-targets -- -D warnings && cargo test --offline --quiet --release
+	@$(CC) $(CFLAGS) -D_POSIX_C_SOURCE=200809L -O2 -Iinclude -o target/filed oracle/filed.c $(LIB)/liblexicon_c.a
+	@python3 oracle/command.py
+
 # After the library, since two runs of rt in one target/ get in each other's way.
 programs: libs
-	@$(call prove,rt check cdlist cdfile)
+	@$(call prove,rt check cdlist)
 	@oracle/programs
 
-run: PROGRAM = cdfile
-list: PROGRAM = cdlist
-run list: | target
-	@$(call prove,rt check $(PROGRAM))
-	@if [ -t 0 ]; then target/bin/$(PROGRAM) $(ARGUMENT) <crates/$(PROGRAM)/stdin; else target/bin/$(PROGRAM) $(ARGUMENT); fi
+list: | target
+	@$(call prove,rt check cdlist)
+	@if [ -t 0 ]; then target/bin/cdlist $(ARGUMENT) <crates/cdlist/stdin; else target/bin/cdlist $(ARGUMENT); fi
 
 compare: beside models
 

@@ -37,7 +37,7 @@ PUBLIC = ("lexicon", "geometry", "lexicon_c", "lexicon/proofs/Demand3.antt: dema
           "lexicon/proofs/OneAnswer.antt: one-answer", "lexicon/proofs/OneAnswer.antt: one-filing", "lexicon/proofs/Wishes.antt: read-alike",
           "lexicon/proofs/Wishes.antt: accepted-unwished", "lexicon_c/proofs/Demand3.antt: demand-3",
           "lexicon_c/proofs/Demand3.antt: nodes-correspond", "lexicon_c/proofs/Demand3.antt: one-answer", "lexicon_c/proofs/Demand3.antt: one-filing")
-PROGRAMS = ("cdlist", "cdfile", "cdlist/proofs/Whole.antt: blocks-list", "cdfile/proofs/Filings.antt: blocks-show")
+PROGRAMS = ("cdlist", "cdlist/proofs/Whole.antt: blocks-list")
 
 TOP = Path(__file__).resolve().parent.parent
 CRATES = TOP / "crates"
@@ -45,7 +45,7 @@ SHARED = TOP.parent / "shared" / "docs"
 DOCUMENT_01 = "01-scope.md"
 DOCUMENT_02 = "02-change-requests.md"
 KIT = ("Prim", "lib", "mathlib", "native", "borrow")
-SOURCES = ("crates", "bindings", "include", "oracle", "bench")
+SOURCES = ("crates", "bindings", "cli", "include", "oracle", "bench")
 
 # A definition of a spec file or a type of a source file, the path below crates/; a heading, paragraph, item of a list or cell of a table.
 Node = namedtuple("Node", "path name")

@@ -38,13 +38,35 @@ Example:
     o4o3x  c b a";
 
 const SHOW: &str = "\
-The text's nodes stand on a line as they were typed, with the edges between neighbours; other edges
-hang below it.
+Chains stand on a line, branches, loops and all other edges below it. A number joins the nodes whose
+lines are at its ends; + joins lines, and a | within a row of - passes across it. x is a ringed node,
+s a snub one, o an unringed one, with lengths other than 1 in parentheses. The nodes a, b, c... are
+read along the line, then branch by branch; where they were typed in another order, names are shown.
+
+With --geometry, decimals are the shortest that give the double back. The generator and its radius
+depend on the order of typing: those of x3o4o and o4o3x differ. Where there are no mirrors or no
+generator, the refusal is told in their place, and the status is 0, as nothing is wrong with the text.
 
 Exit status: 0, 1 if the text is refused, 2 for a failure.
 
 Example:
-  $ lexicon show x5/2o3o";
+  $ lexicon show 'x3o5/2o *b3o'
+  x-3-o-5/2-o
+      |
+      3
+      |
+      o
+
+  nodes:
+    a: ringed, length 1
+    b: unringed
+    c: unringed
+    d: unringed
+  edges:
+    a-b: 3
+    b-c: 5/2
+    b-d: 3
+  minimal: yes, each component has a ringed node";
 
 const DRAW: &str = "\
 A ringed node is a dot with a ring, an unringed one a dot, a snub one an open circle. A length other
@@ -123,33 +145,40 @@ pub fn command() -> Command {
         .subcommand(
             of_texts("record", "Writes records, line by line", RECORD)
                 .arg(text("TEXT", "A text, or - for standard input").required(false))
-                .arg(flag("raw", "Write the records' bytes, and of refusals nothing")),
+                .arg(flag(
+                    "raw",
+                    "Write the records' bytes, and of refusals nothing",
+                )),
         )
         .subcommand(shelf())
 }
 
 fn check() -> Command {
-    of_texts("check", "Finds the headwords that are wrong or stand twice", CHECK)
-        .arg(
-            Arg::new("FILE")
-                .required(true)
-                .action(ArgAction::Append)
-                .num_args(1..)
-                .value_parser(value_parser!(PathBuf))
-                .help("Lists of headwords, or - for standard input"),
-        )
-        .arg(flag(
-            "notes",
-            "Take what follows a line's first tab for a note, which is shown with it",
-        ))
-        .arg(
-            Arg::new("format")
-                .long("format")
-                .value_name("FORMAT")
-                .value_parser(PossibleValuesParser::new(["text", "json"]))
-                .default_value("text")
-                .help("json: one JSON document a finding"),
-        )
+    of_texts(
+        "check",
+        "Finds the headwords that are wrong or stand twice",
+        CHECK,
+    )
+    .arg(
+        Arg::new("FILE")
+            .required(true)
+            .action(ArgAction::Append)
+            .num_args(1..)
+            .value_parser(value_parser!(PathBuf))
+            .help("Lists of headwords, or - for standard input"),
+    )
+    .arg(flag(
+        "notes",
+        "Take what follows a line's first tab for a note, which is shown with it",
+    ))
+    .arg(
+        Arg::new("format")
+            .long("format")
+            .value_name("FORMAT")
+            .value_parser(PossibleValuesParser::new(["text", "json"]))
+            .default_value("text")
+            .help("json: one JSON document a finding"),
+    )
 }
 
 fn show() -> Command {
@@ -159,7 +188,13 @@ fn show() -> Command {
             "geometry",
             "Show the matrix, the mirrors, the generator and its radius too",
         ))
-        .arg(flag("bits", "Show numbers as the 64 bits of a double, in hexadecimal").requires("geometry"))
+        .arg(
+            flag(
+                "bits",
+                "Show those numbers as the 64 bits of doubles, in hexadecimal",
+            )
+            .requires("geometry"),
+        )
 }
 
 fn draw() -> Command {

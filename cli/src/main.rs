@@ -2,6 +2,7 @@
 //! writes files.
 
 mod arguments;
+mod block;
 mod check;
 mod draw;
 mod figures;
@@ -18,6 +19,7 @@ mod shelf;
 mod show;
 mod sketch;
 mod texts;
+mod threads;
 
 use std::{io::Write, process::ExitCode};
 

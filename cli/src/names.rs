@@ -2,11 +2,16 @@
 
 /// The name of a node.
 pub fn name(node: usize) -> char {
-    (b'a'..=b'z').nth(node).map_or('?', char::from)
+    char::from(b"abcdefghi"[node])
 }
 
 /// The names of nodes, with spaces between them.
 pub fn names(nodes: &[usize]) -> String {
-    let names: Vec<_> = nodes.iter().map(|&node| name(node).to_string()).collect();
-    names.join(" ")
+    let mut names = String::with_capacity(2 * nodes.len());
+    for &node in nodes {
+        names.push(name(node));
+        names.push(' ');
+    }
+    names.pop();
+    names
 }

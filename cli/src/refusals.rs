@@ -1,6 +1,9 @@
 //! What is said of a refusal: where it is, what is wrong, and what to do about it.
 
-use std::io::{self, Write};
+use std::{
+    borrow::Cow,
+    io::{self, Write},
+};
 
 use lexicon::CdError;
 
@@ -27,7 +30,10 @@ pub fn what(refusal: &CdError) -> String {
         CdError::OutOfRange { .. } => "the length that ends here is out of range".into(),
         CdError::TooManyNodes { .. } => "this is the tenth node".into(),
         CdError::MissingNode { edge } => {
-            format!("edge {}, counted from 1, goes to a node that the text lacks", edge + 1)
+            format!(
+                "edge {}, counted from 1, goes to a node that the text lacks",
+                edge + 1
+            )
         }
         CdError::InfiniteLength { .. } => "the length that ends here is infinite".into(),
         // Those below are no refusals of texts.
@@ -69,15 +75,29 @@ pub fn advice(refusal: &CdError) -> &'static str {
     }
 }
 
-/// Reports a refusal of a text as a compiler does; `place` is its file and line.
-pub fn report(out: &mut impl Write, place: &str, text: &[u8], refusal: &CdError) -> io::Result<()> {
-    writeln!(out, "{place}:{}: {}", column(refusal), what(refusal))?;
+/// Reports a refusal of a text as a compiler does; `place` is its file and line,
+/// each with a colon.
+pub fn report(
+    out: &mut impl Write,
+    place: &str,
+    text: &[u8],
+    note: &[u8],
+    refusal: &CdError,
+) -> io::Result<()> {
+    writeln!(out, "{place}{}: {}", column(refusal), what(refusal))?;
     let (line, caret) = excerpt(text, refusal.position());
-    writeln!(out, "  {line}")?;
+    let line = format!("  {line}  {}", shown(note));
+    writeln!(out, "{}", line.trim_end())?;
     if let Some(caret) = caret {
         writeln!(out, "  {:caret$}^", "")?;
     }
     writeln!(out, "  refusal {}. {}", refusal.number(), advice(refusal))
+}
+
+/// Reports a refusal of a text of the command line on standard error. Where that can't be written,
+/// the status tells it.
+pub fn complain(name: &str, text: &[u8], refusal: &CdError) {
+    let _ = report(&mut io::stderr(), &format!("{name}:"), text, &[], refusal);
 }
 
 /// The most characters of a text that are shown.
@@ -104,13 +124,17 @@ fn excerpt(text: &[u8], pos: Option<usize>) -> (String, Option<usize>) {
 
 /// Bytes as they are shown: a control character as a space or a mark, so that it does nothing to a
 /// terminal and carets stand where they should.
-pub fn shown(bytes: &[u8]) -> String {
-    let text = String::from_utf8_lossy(bytes);
-    text.chars()
-        .map(|c| match c {
-            '\t' => ' ',
-            c if c.is_control() => char::REPLACEMENT_CHARACTER,
-            c => c,
-        })
-        .collect()
+pub fn shown(bytes: &[u8]) -> Cow<'_, str> {
+    match str::from_utf8(bytes) {
+        Ok(text) if !text.bytes().any(|byte| byte.is_ascii_control()) => text.into(),
+        _ => String::from_utf8_lossy(bytes).chars().map(mark).collect(),
+    }
+}
+
+fn mark(c: char) -> char {
+    match c {
+        '\t' => ' ',
+        c if c.is_control() => char::REPLACEMENT_CHARACTER,
+        c => c,
+    }
 }

@@ -1,4 +1,43 @@
-//! To be written.
+//! `lexicon same`: whether two texts are one figure, and which node is which.
+
+use std::io::Write;
+
 use clap::ArgMatches;
-use crate::output::{Outcome, Output, Status};
-pub fn run(_arguments: &ArgMatches, _out: &mut Output) -> Outcome { Ok(Status::Fine) }
+use lexicon::Cd;
+
+use crate::{
+    names::names,
+    output::{Outcome, Output, Status},
+    refusals, texts,
+};
+
+pub fn run(arguments: &ArgMatches, out: &mut Output) -> Outcome {
+    let [a, b] = ["A", "B"].map(|name| read(arguments, name));
+    let (Some(a), Some(b)) = (a, b) else {
+        return Ok(Status::Failed);
+    };
+    let Some(nodes) = a.corresponding_nodes(&b) else {
+        writeln!(out, "two figures")?;
+        return Ok(Status::Wrong);
+    };
+    let width = a.text().len().max(b.text().len());
+    let own: Vec<usize> = (0..nodes.len()).collect();
+    writeln!(out, "one figure, its nodes in corresponding order:")?;
+    for (cd, nodes) in [(&a, own), (&b, nodes)] {
+        writeln!(
+            out,
+            "  {:width$}  {}",
+            refusals::shown(cd.text().as_bytes()),
+            names(&nodes)
+        )?;
+    }
+    Ok(Status::Fine)
+}
+
+/// The text of this name, or nothing after its refusal was told.
+fn read(arguments: &ArgMatches, name: &str) -> Option<Cd> {
+    let text = texts::of(arguments, name);
+    let cd = texts::read(text, texts::infinite(arguments));
+    cd.map_err(|refusal| refusals::complain(name, text, &refusal))
+        .ok()
+}

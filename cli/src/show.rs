@@ -1,4 +1,87 @@
-//! To be written.
+//! `lexicon show`: what a text says, drawn and listed.
+
+use std::io::{self, Write};
+
 use clap::ArgMatches;
-use crate::output::{Outcome, Output, Status};
-pub fn run(_arguments: &ArgMatches, _out: &mut Output) -> Outcome { Ok(Status::Fine) }
+use lexicon::{Cd, Node, StoredEdge};
+
+use crate::{
+    geometry::{self, Form},
+    names::name,
+    output::{Outcome, Output, Status},
+    refusals,
+    sketch::{decimal, fraction, sketch},
+    texts,
+};
+
+pub fn run(arguments: &ArgMatches, out: &mut Output) -> Outcome {
+    let text = texts::of(arguments, "TEXT");
+    let cd = match texts::read(text, texts::infinite(arguments)) {
+        Ok(cd) => cd,
+        Err(refusal) => {
+            refusals::complain("TEXT", text, &refusal);
+            return Ok(Status::Wrong);
+        }
+    };
+    show(&cd, out)?;
+    if arguments.get_flag("geometry") {
+        let form = if arguments.get_flag("bits") {
+            Form::Bits
+        } else {
+            Form::Decimal
+        };
+        geometry::show(&cd, form, out)?;
+    }
+    Ok(Status::Fine)
+}
+
+/// Writes the drawing and the lists.
+fn show(cd: &Cd, out: &mut impl Write) -> io::Result<()> {
+    let drawing = sketch(cd.diagram());
+    for row in &drawing {
+        writeln!(out, "{row}")?;
+    }
+    if !drawing.is_empty() {
+        writeln!(out)?;
+    }
+    let diagram = cd.diagram();
+    let nodes = diagram.nodes.iter().enumerate();
+    let nodes = nodes.map(|(i, node)| format!("{}: {}", name(i), in_words(node)));
+    list(out, "nodes", nodes)?;
+    list(out, "edges", diagram.edges.iter().map(joined))?;
+    let minimal = if cd.minimal() {
+        "yes, each component has a ringed node"
+    } else {
+        "no, a component has no ringed node"
+    };
+    writeln!(out, "minimal: {minimal}")
+}
+
+fn list(
+    out: &mut impl Write,
+    what: &str,
+    entries: impl ExactSizeIterator<Item = String>,
+) -> io::Result<()> {
+    if entries.len() == 0 {
+        return writeln!(out, "{what}: none");
+    }
+    writeln!(out, "{what}:")?;
+    for entry in entries {
+        writeln!(out, "  {entry}")?;
+    }
+    Ok(())
+}
+
+fn in_words(node: &Node) -> String {
+    match *node {
+        Node::Unringed => "unringed".into(),
+        Node::Ringed(length) => format!("ringed, length {}", decimal(length)),
+        Node::Snub(length) => format!("snub, length {}", decimal(length)),
+    }
+}
+
+fn joined(stored: &StoredEdge) -> String {
+    let number = fraction(stored.edge);
+    let rest = if stored.a == stored.b { ", a loop" } else { "" };
+    format!("{}-{}: {number}{rest}", name(stored.a), name(stored.b))
+}

@@ -193,8 +193,7 @@ impl Cd {
     /// ```
     #[must_use]
     pub fn record_and_numbering(&self) -> (Record, Vec<usize>) {
-        let (bytes, numbering) = answered(ffi::write_record(self.text.as_bytes(), self.wish));
-        (Record::from_trusted_bytes(&bytes), numbering)
+        answered(Record::of_text(&self.text, self.wish))
     }
 
     /// For each node of this diagram the node of the other that corresponds to it, or `None` if the

@@ -45,6 +45,29 @@ impl Record {
     /// How many bytes a record has.
     pub const LEN: usize = RECORD;
 
+    /// The record of a text and the numbering that gives it, as of
+    /// [`Cd::record_and_numbering`](crate::Cd::record_and_numbering), by one call of the library:
+    /// for a program that files many texts and needs no diagrams. `infinite` is the wish for
+    /// infinite lengths, as in [`Cd::parse_with_infinite`](crate::Cd::parse_with_infinite).
+    ///
+    /// # Errors
+    ///
+    /// As [`Cd::parse`](crate::Cd::parse).
+    ///
+    /// ```
+    /// use lexicon::{Cd, CdError, Record};
+    ///
+    /// let filed = Record::of_text("x3o4o", false)?;
+    /// assert_eq!(filed, Cd::parse("x3o4o")?.record_and_numbering());
+    /// assert_eq!(Record::of_text("x1o", false).unwrap_err().number(), 7);
+    /// # Ok::<(), CdError>(())
+    /// ```
+    #[inline]
+    pub fn of_text(text: impl AsRef<[u8]>, infinite: bool) -> CdResult<(Self, Vec<usize>)> {
+        let (bytes, numbering) = ffi::write_record(text.as_ref(), infinite)?;
+        Ok((Self(bytes), numbering))
+    }
+
     /// Takes the bytes of a record, in about the time of [`Cd::record`](crate::Cd::record), since they
     /// must be the smallest that any numbering gives.
     ///

@@ -18,7 +18,7 @@ ghost use Rattle.lines.specs.Arguments.{argumentOf};
 pub mod spelled; // spelled.rt: bytes that a line spells, and digests of bytes
 
 // Says a line on standard error: a program has no exit status.
-pub fn say(line: &[u8]) {
+fn say(line: &[u8]) {
     io::write_all(2, line);
 }
 

@@ -1,2 +1,0 @@
--- What the program `cdfile` writes on a text.
-pub mod Shown
