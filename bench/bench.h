@@ -9,4 +9,7 @@ void shelf_rows(void);
 void cox_rows(void);
 void float_rows(void);
 
+// The file holds the headwords that bench/headwords writes.
+void command_rows(const char *path);
+
 #endif

@@ -91,40 +91,64 @@ Example:
 
 const SHELF: &str = "\
 A shelf has the record of each article, 370 bytes, each greater than the one before. Places are
-counted from 0.
+counted from 0. A file that is no shelf is refused, with the place that is wrong and what stands
+there. The commands that only read take no lock: they see the old shelf or the new one.
 
 Exit status: 0; 1 for refused, not found or already there; 2 for a failure.";
 
 const SHELF_CHECK: &str = "\
+Exit status: 0, 1 if the file is refused, 2 for a failure.
+
 Example:
   $ lexicon shelf check articles.shelf
   articles.shelf: 214 places";
 
 const SHELF_FIND: &str = "\
+All texts are looked for, whether or not others are refused.
+
+Exit status: 0, 1 if a text is not there or is refused, or if the file is, 2 for a failure.
+
 Example:
-  $ lexicon shelf find articles.shelf o4o3x
-  o4o3x: place 17";
+  $ lexicon shelf find articles.shelf o4o3x x3o
+  o4o3x: place 17
+  x3o: not there, would be place 2";
 
 const SHELF_ADD: &str = "\
-All texts are added in one replacement of the file, or none is. Whatever happens, the file is the old
-shelf or the new one.
+All texts are added in one replacement of the file, or none is: not if one of them is refused or there
+already, or two are one figure. Whatever happens, the file is the old shelf or the new one. Its
+permissions are kept, and a link to it stays one. One run at a time adds; others wait for it. What a
+killed run leaves beside FILE, .FILE.lexicon-new, the next one removes.
+
+Exit status: 0, 1 if nothing was added because of a text or because the file is refused, 2 for a
+failure.
 
 Example:
   $ lexicon shelf add articles.shelf x3o4o x5o3o
   x3o4o: added, place 17
-  x5o3o: added, place 21
+  x5o3o: added, place 14
   articles.shelf: 216 places";
 
 const SHELF_LIST: &str = "\
+On each place a line: its number, a tab, and a text of its figure, which the library reads to the
+record that stands there. A record that no text has is told by its nodes and edges.
+
+Exit status: 0, 1 if the file is refused, 2 for a failure.
+
 Example:
-  $ lexicon shelf list articles.shelf";
+  $ lexicon shelf list articles.shelf | sed -n 18p
+  17	x3o4o";
 
 const SHELF_MAKE: &str = "\
 Each line of standard input is a text; LF or CR LF ends it. A figure that stands twice is told, and
 kept once; if a text is refused, it is told, and no file is made. FILE must not be there.
 
+Exit status: 0; 1 if a text is refused, and no file is made, or if a figure stands twice, and the file
+is made; 2 for a failure.
+
 Example:
-  $ lexicon shelf make articles.shelf <headwords.txt";
+  $ printf 'x3o4o\\nx\\no4o3x\\n' | lexicon shelf make articles.shelf
+  -:3: o4o3x is the figure of -:1: x3o4o
+  articles.shelf: 2 places";
 
 /// The whole command line.
 pub fn command() -> Command {

@@ -80,6 +80,12 @@ impl Block {
         }
     }
 
+    /// What those that are accepted are filed as.
+    pub fn filed(&self) -> impl Iterator<Item = &Filed> {
+        let answers = self.lines.iter().filter_map(|line| line.answer.as_ref());
+        answers.filter_map(|answer| answer.as_ref().ok().map(|(filed, _)| filed))
+    }
+
     /// The lines that were answered: what was typed, and its record or its refusal.
     pub fn answers(&self) -> impl Iterator<Item = (Typed<'_>, Result<(&Filed, &[u8]), &CdError>)> {
         self.lines.iter().filter_map(|line| {
@@ -95,9 +101,9 @@ impl Block {
     }
 }
 
-/// A record up to its last byte that is not zero. All have one length, so no two become equal.
+/// A record without the zeros at its end, eight by eight. All have one length, so no two become equal.
 fn told(record: &Record) -> &[u8] {
     let bytes = record.as_bytes();
-    let end = bytes.iter().rposition(|&byte| byte != 0);
-    &bytes[..end.map_or(0, |last| last + 1)]
+    let zeros = bytes.rchunks_exact(8).take_while(|chunk| **chunk == [0; 8]);
+    &bytes[..bytes.len() - 8 * zeros.count()]
 }

@@ -135,6 +135,7 @@ struct Findings<'a> {
 
 impl Findings<'_> {
     fn take(&mut self, block: &Block, progress: &Progress) -> io::Result<()> {
+        self.figures.expect(|| block.filed());
         for (typed, answer) in block.answers() {
             self.totals.lines += 1;
             match answer {

@@ -1,6 +1,6 @@
 //! The figures that were met, each with the headwords that draw it.
 
-use std::{fmt::Display, hash::BuildHasher, iter, ops::Range};
+use std::{fmt::Display, hash::BuildHasher, hint, iter, ops::Range};
 
 use crate::block::{Place, Typed};
 
@@ -42,14 +42,19 @@ pub struct Headword {
 }
 
 impl Headword {
-    /// For each node of this text the node of another headword of the figure that corresponds to it,
-    /// as the library's `corresponding_nodes` tells it: the two stand at one place of the record.
-    pub fn corresponding_nodes(&self, other: &Self) -> Vec<usize> {
-        let mut nodes = vec![0; self.filed.nodes.into()];
+    /// At which place of the record each node of this text stands.
+    pub fn places(&self) -> Vec<u8> {
+        let mut places = vec![0; self.filed.nodes.into()];
         for place in 0..self.filed.nodes {
-            nodes[self.filed.node(place)] = other.filed.node(place);
+            places[self.filed.node(place)] = place;
         }
-        nodes
+        places
+    }
+
+    /// The nodes of this text that stand at these places of the record. Those at the places of another
+    /// headword's nodes correspond to them, as the library's `corresponding_nodes` tells it.
+    pub fn nodes<'a>(&'a self, places: &'a [u8]) -> impl Iterator<Item = usize> + 'a {
+        places.iter().map(|&place| self.filed.node(place))
     }
 }
 
@@ -79,13 +84,8 @@ struct Slot {
     number: u32,
 }
 
-impl Slot {
-    fn new(hash: u64, number: usize) -> Self {
-        Self {
-            hash: small(hash >> 32),
-            number: small(number),
-        }
-    }
+fn upper(hash: u64) -> u32 {
+    small(hash >> 32)
 }
 
 impl Figures {
@@ -97,6 +97,21 @@ impl Figures {
             records: vec![],
             typed: vec![],
         }
+    }
+
+    /// Reads what [`Figures::add`] will read for these, so that it comes into the cache all at once and
+    /// not piece after piece.
+    pub fn expect<'a, I: Iterator<Item = &'a Filed>>(&self, filed: impl Fn() -> I) {
+        let slots = filed().map(|filed| self.slots[self.home(filed.hash)]);
+        hint::black_box(slots.fold(0, |all, slot| all ^ slot.number));
+        let records = filed().filter_map(|filed| {
+            let Slot { hash, number } = self.slots[self.home(filed.hash)];
+            let figure = number
+                .checked_sub(1)
+                .filter(|_| hash == upper(filed.hash))?;
+            self.records.get(self.all[figure as usize].record.start)
+        });
+        hint::black_box(records.fold(0, |all, byte| all ^ byte));
     }
 
     /// Takes a headword that has this record.
@@ -118,11 +133,10 @@ impl Figures {
 
     /// The figure that has this record, or the slot for it.
     fn find(&self, hash: u64, record: &[u8]) -> Result<u32, usize> {
-        let upper = Slot::new(hash, 0).hash;
         let mut at = self.home(hash);
-        while let Slot { hash, number: 1.. } = self.slots[at] {
-            let figure = self.slots[at].number - 1;
-            if hash == upper && self.records[self.all[figure as usize].record.clone()] == *record {
+        while let Some(figure) = self.slots[at].number.checked_sub(1) {
+            let candidate = self.slots[at].hash == upper(hash);
+            if candidate && self.records[self.all[figure as usize].record.clone()] == *record {
                 return Ok(figure);
             }
             at = (at + 1) % self.slots.len();
@@ -136,7 +150,10 @@ impl Figures {
         let record = from..self.records.len();
         let hash = first.filed.hash;
         self.all.push(Figure { record, first });
-        self.slots[slot] = Slot::new(hash, self.all.len());
+        self.slots[slot] = Slot {
+            hash: upper(hash),
+            number: small(self.all.len()),
+        };
         if 2 * self.all.len() > self.slots.len() {
             self.grow();
         }
@@ -151,7 +168,10 @@ impl Figures {
             while self.slots[at].number != 0 {
                 at = (at + 1) % self.slots.len();
             }
-            self.slots[at] = Slot::new(hash, number);
+            self.slots[at] = Slot {
+                hash: upper(hash),
+                number,
+            };
         }
     }
 

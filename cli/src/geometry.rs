@@ -4,7 +4,7 @@ use std::io::{self, Write};
 
 use lexicon::{Cd, CdError};
 
-use crate::{names::name, sketch::decimal};
+use crate::names::{decimal, name};
 
 /// How doubles are written. Either way they can be read back as they are.
 #[derive(Clone, Copy)]

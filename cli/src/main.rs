@@ -18,8 +18,10 @@ mod same;
 mod shelf;
 mod show;
 mod sketch;
+mod spelling;
 mod texts;
 mod threads;
+mod walk;
 
 use std::{io::Write, process::ExitCode};
 

@@ -9,7 +9,7 @@ use lexicon::CdError;
 use serde_json::{json, Value};
 
 use crate::{
-    block::Typed,
+    block::{Place, Typed},
     figures::{Figures, Headword},
     names::names,
     output::Output,
@@ -60,55 +60,68 @@ impl<'a> Report<'a> {
 
     /// Headwords that are one figure, each with its nodes in the order of the first one's.
     pub fn one_figure(&mut self, figures: &Figures, group: &[&Headword]) -> io::Result<()> {
-        let headwords = group.iter().map(|headword| {
-            let nodes = group[0].corresponding_nodes(headword);
-            (figures.typed(headword), nodes)
-        });
+        let places = group[0].places();
         if !self.json {
-            return self.rows(&headwords.collect::<Vec<_>>());
+            return self.rows(figures, group, &places);
         }
-        let headwords = headwords.map(|(typed, nodes)| {
-            let mut headword = self.headword(&typed);
-            headword["nodes"] = nodes.into();
-            headword
+        let headwords = group.iter().map(|headword| {
+            let mut finding = self.headword(&figures.typed(headword));
+            finding["nodes"] = headword.nodes(&places).collect();
+            finding
         });
         let headwords: Vec<Value> = headwords.collect();
         self.write(&json!({ "finding": "one figure", "headwords": headwords }))
     }
 
-    fn rows(&mut self, headwords: &[(Typed, Vec<usize>)]) -> io::Result<()> {
-        let lines = headwords.len();
+    fn rows(&mut self, figures: &Figures, group: &[&Headword], places: &[u8]) -> io::Result<()> {
+        let lines = group.len();
         writeln!(
             self.out,
             "{lines} lines are one figure, their nodes in corresponding order:"
         )?;
-        let places: Vec<_> = headwords
+        let place = group
             .iter()
-            .map(|(typed, _)| self.place(typed))
-            .collect();
-        let place = places
+            .map(|headword| self.width(headword.place))
+            .max();
+        let text = group
             .iter()
-            .map(|place| place.chars().count())
-            .max()
-            .unwrap_or(0);
-        let text = headwords
-            .iter()
-            .map(|(typed, _)| typed.text.len())
-            .max()
-            .unwrap_or(0);
-        for ((typed, nodes), at) in headwords.iter().zip(places) {
-            write!(
-                self.out,
-                "  {at:place$} {:text$}  {}",
-                shown(typed.text),
-                names(nodes)
-            )?;
-            if !typed.note.is_empty() {
-                write!(self.out, "  {}", shown(typed.note))?;
-            }
-            writeln!(self.out)?;
+            .map(|headword| figures.typed(headword).text.len())
+            .max();
+        let widths = (place.unwrap_or(0), text.unwrap_or(0));
+        let mut row = Vec::new();
+        for headword in group {
+            row.clear();
+            let nodes = headword.nodes(places);
+            self.row(&mut row, widths, &figures.typed(headword), nodes)?;
+            self.out.write_all(&row)?;
         }
         Ok(())
+    }
+
+    /// There may be many rows, so each is put together by hand.
+    fn row(
+        &self,
+        row: &mut Vec<u8>,
+        (place, text): (usize, usize),
+        typed: &Typed,
+        nodes: impl Iterator<Item = usize>,
+    ) -> io::Result<()> {
+        let file = &self.files[typed.place.file as usize];
+        write!(row, "  {file}:{}:", typed.place.line)?;
+        row.resize(row.len() + place - self.width(typed.place) + 1, b' ');
+        row.extend_from_slice(shown(typed.text).as_bytes());
+        row.resize(row.len() + text - typed.text.len() + 1, b' ');
+        write!(row, " {}", names(nodes))?;
+        write!(row, "  {}", shown(typed.note))?;
+        row.truncate(row.trim_ascii_end().len());
+        row.push(b'\n');
+        Ok(())
+    }
+
+    /// How many characters a file's name and a line's digits have.
+    fn width(&self, place: Place) -> usize {
+        let digits = place.line.checked_ilog10().unwrap_or(0) as usize + 1;
+        self.files[place.file as usize].chars().count() + digits
     }
 
     /// The last line.

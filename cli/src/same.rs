@@ -21,15 +21,11 @@ pub fn run(arguments: &ArgMatches, out: &mut Output) -> Outcome {
         return Ok(Status::Wrong);
     };
     let width = a.text().len().max(b.text().len());
-    let own: Vec<usize> = (0..nodes.len()).collect();
     writeln!(out, "one figure, its nodes in corresponding order:")?;
-    for (cd, nodes) in [(&a, own), (&b, nodes)] {
-        writeln!(
-            out,
-            "  {:width$}  {}",
-            refusals::shown(cd.text().as_bytes()),
-            names(&nodes)
-        )?;
+    for (cd, nodes) in [(&a, (0..nodes.len()).collect()), (&b, nodes)] {
+        let text = refusals::shown(cd.text().as_bytes());
+        let row = format!("  {text:width$}  {}", names(nodes));
+        writeln!(out, "{}", row.trim_end())?;
     }
     Ok(Status::Fine)
 }

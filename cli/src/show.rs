@@ -7,10 +7,10 @@ use lexicon::{Cd, Node, StoredEdge};
 
 use crate::{
     geometry::{self, Form},
-    names::name,
+    names::{decimal, fraction, name},
     output::{Outcome, Output, Status},
     refusals,
-    sketch::{decimal, fraction, sketch},
+    sketch::sketch,
     texts,
 };
 

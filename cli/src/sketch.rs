@@ -19,7 +19,6 @@ use brackets::{Bracket, Lines};
 use branches::{below, width};
 use plan::Plan;
 use symbols::symbol;
-pub use symbols::{decimal, fraction};
 
 /// The columns that are left between things side by side.
 const MARGIN: usize = 3;

@@ -11,8 +11,8 @@ use std::{
 
 use crate::{block::Block, figures::Hash};
 
-/// How many blocks a thread has at most: one that it files, and the next.
-const BLOCKS: usize = 2;
+/// How many blocks a thread has at most, so that it need not wait for the next.
+const BLOCKS: usize = 4;
 
 /// They get blocks in turn, and give them back in the order in which they got them.
 pub struct Threads {

@@ -156,6 +156,7 @@ pub fn family_mirrors(letter: u8, size: usize) -> Written<f64, SQUARE> {
 }
 
 /// The record, and the numbering that gives it, which has a place for each node.
+#[inline]
 pub fn write_record(text: &[u8], wish: bool) -> CdResult<([u8; RECORD], Vec<usize>)> {
     let mut out = [0; RECORD];
     let mut numbering = [0; LIMIT];

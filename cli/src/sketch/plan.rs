@@ -2,7 +2,7 @@
 
 use lexicon::{Diagram, StoredEdge};
 
-use super::symbols::fraction;
+use crate::names::fraction;
 
 /// Where the nodes of a diagram go.
 pub struct Plan<'a> {
