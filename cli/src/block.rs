@@ -1,13 +1,15 @@
 //! Lines that are filed together, by one of the threads.
 
-use std::ops::Range;
+use std::{fmt::Display, hash::BuildHasher};
 
-use lexicon::{CdError, CdResult, Record};
+use lexicon::{CdResult, Record};
 
-use crate::figures::{Filed, Hash};
+/// How records are hashed. Its key is the run's own, so that no list of texts can be made that takes
+/// long.
+pub type Hash = ahash::RandomState;
 
-/// Few enough to stay in a core's cache.
-const LINES: usize = 512;
+/// Few enough to stay in a cache, and enough that passing them on costs next to nothing.
+const LINES: usize = 1024;
 
 /// A line of a file, counted from 1.
 #[derive(Clone, Copy)]
@@ -16,28 +18,70 @@ pub struct Place {
     pub line: u64,
 }
 
+/// A headword as it was typed.
+pub struct Typed<'a> {
+    pub place: Place,
+    pub text: &'a [u8],
+    pub note: &'a [u8],
+}
+
+/// The record of a text, and the numbering that gives it.
+pub struct Filed {
+    pub record: Record,
+    pub hash: u64,
+    pub numbering: Numbering,
+}
+
+/// For each place of a record the node of a text that stands there, four bits each.
+#[derive(Clone, Copy)]
+pub struct Numbering {
+    nodes: u64,
+    count: u8,
+}
+
+impl Numbering {
+    pub fn new(numbering: &[usize]) -> Self {
+        let nodes = numbering.iter().rev();
+        Self {
+            nodes: nodes.fold(0, |all, &node| all << 4 | node as u64),
+            count: small(numbering.len()),
+        }
+    }
+
+    fn node(self, place: u8) -> usize {
+        (self.nodes >> (4 * place) & 15) as usize
+    }
+
+    /// At which place of the record each node stands.
+    pub fn places(self) -> Vec<u8> {
+        let mut places = vec![0; self.count.into()];
+        for place in 0..self.count {
+            places[self.node(place)] = place;
+        }
+        places
+    }
+
+    /// The nodes that stand at these places of the record. Those at the places of another text's nodes
+    /// correspond to them, as the library's `corresponding_nodes` tells it.
+    pub fn nodes(self, places: &[u8]) -> impl Iterator<Item = usize> + '_ {
+        places.iter().map(move |&place| self.node(place))
+    }
+}
+
 /// Lines, and the library's answers to their texts.
 #[derive(Default)]
 pub struct Block {
     lines: Vec<Line>,
     /// Texts and notes, one after another.
     typed: Vec<u8>,
-    /// The records of those that are accepted.
-    records: Vec<u8>,
 }
 
 struct Line {
     place: Place,
-    text: Range<usize>,
-    note: Range<usize>,
-    answer: Option<CdResult<(Filed, Range<usize>)>>,
-}
-
-/// A headword as it was typed.
-pub struct Typed<'a> {
-    pub place: Place,
-    pub text: &'a [u8],
-    pub note: &'a [u8],
+    /// Where its text begins among all that was typed, where its note begins, and where that ends.
+    typed: [usize; 3],
+    /// The library's answer, once it was asked.
+    answer: Option<CdResult<Filed>>,
 }
 
 impl Block {
@@ -48,18 +92,15 @@ impl Block {
     pub fn clear(&mut self) {
         self.lines.clear();
         self.typed.clear();
-        self.records.clear();
     }
 
     pub fn push(&mut self, typed: &Typed) {
         let from = self.typed.len();
-        let middle = from + typed.text.len();
         self.typed.extend_from_slice(typed.text);
         self.typed.extend_from_slice(typed.note);
         self.lines.push(Line {
             place: typed.place,
-            text: from..middle,
-            note: middle..self.typed.len(),
+            typed: [from, from + typed.text.len(), self.typed.len()],
             answer: None,
         });
     }
@@ -67,43 +108,33 @@ impl Block {
     /// Has the library answer all lines.
     pub fn file(&mut self, hash: &Hash, infinite: bool) {
         for line in &mut self.lines {
-            let filed = Record::of_text(&self.typed[line.text.clone()], infinite);
-            line.answer = Some(filed.map(|(record, numbering)| {
-                let from = self.records.len();
-                self.records.extend_from_slice(told(&record));
-                let record = from..self.records.len();
-                (
-                    Filed::new(hash, &self.records[record.clone()], &numbering),
-                    record,
-                )
+            let [from, to, _] = line.typed;
+            let filed = Record::of_text(&self.typed[from..to], infinite);
+            line.answer = Some(filed.map(|(record, numbering)| Filed {
+                hash: hash.hash_one(record),
+                numbering: Numbering::new(&numbering),
+                record,
             }));
         }
     }
 
-    /// What those that are accepted are filed as.
-    pub fn filed(&self) -> impl Iterator<Item = &Filed> {
-        let answers = self.lines.iter().filter_map(|line| line.answer.as_ref());
-        answers.filter_map(|answer| answer.as_ref().ok().map(|(filed, _)| filed))
-    }
-
-    /// The lines that were answered: what was typed, and its record or its refusal.
-    pub fn answers(&self) -> impl Iterator<Item = (Typed<'_>, Result<(&Filed, &[u8]), &CdError>)> {
+    /// What was typed on each line, and what the library answers to it.
+    pub fn answers(&self) -> impl Iterator<Item = (Typed<'_>, &CdResult<Filed>)> {
         self.lines.iter().filter_map(|line| {
+            let [from, middle, to] = line.typed;
             let typed = Typed {
                 place: line.place,
-                text: &self.typed[line.text.clone()],
-                note: &self.typed[line.note.clone()],
+                text: &self.typed[from..middle],
+                note: &self.typed[middle..to],
             };
-            let answer = line.answer.as_ref()?.as_ref();
-            let filed = answer.map(|(filed, record)| (filed, &self.records[record.clone()]));
-            Some((typed, filed))
+            Some((typed, line.answer.as_ref()?))
         })
     }
 }
 
-/// A record without the zeros at its end, eight by eight. All have one length, so no two become equal.
-fn told(record: &Record) -> &[u8] {
-    let bytes = record.as_bytes();
-    let zeros = bytes.rchunks_exact(8).take_while(|chunk| **chunk == [0; 8]);
-    &bytes[..bytes.len() - 8 * zeros.count()]
+/// A number in as many bits as it needs: an accepted text has at most 255 bytes and nine nodes, of a
+/// line 4,096 bytes are kept, and 2^32 figures need some hundred gigabytes.
+pub fn small<U>(number: impl TryInto<U> + Copy + Display) -> U {
+    let small = number.try_into();
+    small.unwrap_or_else(|_| panic!("{number} is more than this program can keep"))
 }

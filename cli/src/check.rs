@@ -11,27 +11,29 @@ use clap::ArgMatches;
 
 use crate::{
     block::{Block, Place, Typed},
-    figures::Figures,
+    figures::{Figures, Headword},
     lines::Lines,
     output::{Failure, Outcome, Output, Status},
     progress::Progress,
     report::{Report, Totals},
     texts,
-    threads::Threads,
+    threads::{self, Threads},
 };
 
 pub fn run(arguments: &ArgMatches, out: &mut Output) -> Outcome {
     let files: Vec<&PathBuf> = arguments.get_many("FILE").unwrap_or_default().collect();
     let format: Option<&String> = arguments.get_one("format");
+    let infinite = texts::infinite(arguments);
     let mut check = Check {
         notes: arguments.get_flag("notes"),
         progress: Progress::new(files.iter().map(|file| size(file)).sum()),
         bytes: 0,
         reading: Block::default(),
-        threads: Threads::new(texts::infinite(arguments)),
+        threads: Threads::new(infinite),
         findings: Findings {
-            report: Report::new(out, &files, format.is_some_and(|format| format == "json")),
-            figures: Figures::new(),
+            out,
+            report: Report::new(&files, format.is_some_and(|format| format == "json")),
+            figures: Figures::new(infinite),
             totals: Totals::default(),
         },
     };
@@ -128,21 +130,22 @@ impl Check<'_> {
 }
 
 struct Findings<'a> {
-    report: Report<'a>,
+    out: &'a mut Output,
+    report: Report,
     figures: Figures,
     totals: Totals,
 }
 
 impl Findings<'_> {
     fn take(&mut self, block: &Block, progress: &Progress) -> io::Result<()> {
-        self.figures.expect(|| block.filed());
+        self.figures.read_ahead(block);
         for (typed, answer) in block.answers() {
             self.totals.lines += 1;
             match answer {
-                Ok((filed, record)) => self.figures.add(&typed, filed, record),
+                Ok(filed) => self.figures.take(&typed, filed),
                 Err(refusal) => {
                     self.totals.refused += 1;
-                    progress.aside(|| self.report.refused(&typed, refusal))?;
+                    progress.aside(|| self.report.refused(self.out, &typed, refusal))?;
                 }
             }
         }
@@ -151,12 +154,14 @@ impl Findings<'_> {
 
     fn end(mut self) -> Outcome {
         self.figures.sort();
+        let groups: Vec<_> = self.figures.groups().collect();
         self.totals.figures = self.figures.count();
-        for group in self.figures.groups() {
-            self.totals.repeated += 1;
-            self.report.one_figure(&self.figures, &group)?;
-        }
-        self.report.totals(&self.totals)?;
+        self.totals.repeated = groups.len();
+        let tell = |group: &[&Headword], told: &mut Vec<u8>| {
+            self.report.one_figure(told, &self.figures, group)
+        };
+        threads::tell(&groups, tell, self.out)?;
+        self.report.totals(self.out, &self.totals)?;
         let fine = self.totals.refused == 0 && self.totals.repeated == 0;
         Ok(if fine { Status::Fine } else { Status::Wrong })
     }

@@ -1,80 +1,43 @@
 //! The figures that were met, each with the headwords that draw it.
 
-use std::{fmt::Display, hash::BuildHasher, hint, iter, ops::Range};
+use std::{hint, iter};
 
-use crate::block::{Place, Typed};
+use lexicon::Record;
 
-/// How records are hashed. Its key is the run's own, so that no list of texts can be made that takes
-/// long.
-pub type Hash = ahash::RandomState;
-
-/// A record's hash, and the numbering that gives the record, four bits a place.
-#[derive(Clone, Copy)]
-pub struct Filed {
-    hash: u64,
-    numbering: u64,
-    nodes: u8,
-}
-
-impl Filed {
-    pub fn new(hash: &Hash, record: &[u8], numbering: &[usize]) -> Self {
-        let packed = numbering.iter().rev();
-        Self {
-            hash: hash.hash_one(record),
-            numbering: packed.fold(0, |all, &node| all << 4 | node as u64),
-            nodes: small(numbering.len()),
-        }
-    }
-
-    fn node(&self, place: u8) -> usize {
-        (self.numbering >> (4 * place) & 15) as usize
-    }
-}
+use crate::block::{small, Block, Filed, Numbering, Place, Typed};
 
 /// A headword that was accepted.
 pub struct Headword {
-    pub place: Place,
-    filed: Filed,
+    place: Place,
+    pub numbering: Numbering,
     /// Where its text and its note begin among all that was typed.
     from: usize,
     note: u16,
     text: u8,
 }
 
-impl Headword {
-    /// At which place of the record each node of this text stands.
-    pub fn places(&self) -> Vec<u8> {
-        let mut places = vec![0; self.filed.nodes.into()];
-        for place in 0..self.filed.nodes {
-            places[self.filed.node(place)] = place;
-        }
-        places
-    }
-
-    /// The nodes of this text that stand at these places of the record. Those at the places of another
-    /// headword's nodes correspond to them, as the library's `corresponding_nodes` tells it.
-    pub fn nodes<'a>(&'a self, places: &'a [u8]) -> impl Iterator<Item = usize> + 'a {
-        places.iter().map(|&place| self.filed.node(place))
-    }
-}
-
-/// A figure, by its whole record.
 struct Figure {
-    record: Range<usize>,
     first: Headword,
+    hash: u64,
+    /// Its record among those that are kept.
+    record: Option<u32>,
 }
 
-/// All figures, in a table by the hashes of their records. A hash only finds those that may be equal.
+/// All figures, in a table by the hashes of their records. A hash only finds those that may be equal:
+/// whole records are compared. A record is kept when its figure may have come a second time. Most
+/// figures come once, and all their records would need more time and memory than filing the first
+/// headword again.
 pub struct Figures {
+    infinite: bool,
     all: Vec<Figure>,
+    records: Vec<Record>,
+    /// All headwords that are not their figure's first.
+    repeats: Vec<(u32, Headword)>,
+    /// Texts and notes, one after another.
+    typed: Vec<u8>,
     /// Each figure stands in the slot of its hash or in the first free one behind it. There are a
     /// power of two of slots, and at least half of them are free.
     slots: Vec<Slot>,
-    /// The headwords that are not their figure's first.
-    repeats: Vec<(u32, Headword)>,
-    /// Records, and what was typed, one after another.
-    records: Vec<u8>,
-    typed: Vec<u8>,
 }
 
 /// The upper half of a figure's hash, and the figure's number from 1; or 0, which is free.
@@ -84,59 +47,68 @@ struct Slot {
     number: u32,
 }
 
+impl Slot {
+    /// The figure, if it may be one of this hash.
+    fn candidate(self, hash: u64) -> Option<u32> {
+        let figure = self.number.checked_sub(1)?;
+        (self.hash == upper(hash)).then_some(figure)
+    }
+}
+
 fn upper(hash: u64) -> u32 {
     small(hash >> 32)
 }
 
 impl Figures {
-    pub fn new() -> Self {
+    pub fn new(infinite: bool) -> Self {
         Self {
+            infinite,
             all: vec![],
-            slots: vec![Slot::default(); 1024],
-            repeats: vec![],
             records: vec![],
+            repeats: vec![],
             typed: vec![],
+            slots: vec![Slot::default(); 1024],
         }
     }
 
-    /// Reads what [`Figures::add`] will read for these, so that it comes into the cache all at once and
-    /// not piece after piece.
-    pub fn expect<'a, I: Iterator<Item = &'a Filed>>(&self, filed: impl Fn() -> I) {
-        let slots = filed().map(|filed| self.slots[self.home(filed.hash)]);
-        hint::black_box(slots.fold(0, |all, slot| all ^ slot.number));
-        let records = filed().filter_map(|filed| {
-            let Slot { hash, number } = self.slots[self.home(filed.hash)];
-            let figure = number
-                .checked_sub(1)
-                .filter(|_| hash == upper(filed.hash))?;
-            self.records.get(self.all[figure as usize].record.start)
-        });
-        hint::black_box(records.fold(0, |all, byte| all ^ byte));
-    }
-
-    /// Takes a headword that has this record.
-    pub fn add(&mut self, typed: &Typed, filed: &Filed, record: &[u8]) {
+    /// Takes a headword that was filed.
+    pub fn take(&mut self, typed: &Typed, filed: &Filed) {
         let headword = Headword {
             place: typed.place,
-            filed: *filed,
+            numbering: filed.numbering,
             from: self.typed.len(),
             note: small(typed.note.len()),
             text: small(typed.text.len()),
         };
         self.typed.extend_from_slice(typed.text);
         self.typed.extend_from_slice(typed.note);
-        match self.find(filed.hash, record) {
+        match self.find(filed) {
             Ok(figure) => self.repeats.push((figure, headword)),
-            Err(slot) => self.file(slot, record, headword),
+            Err(slot) => self.add(slot, filed.hash, headword),
         }
     }
 
+    /// Reads what [`Figures::take`] will read for a block, so that it comes into the cache all at once
+    /// and not piece after piece.
+    pub fn read_ahead(&self, block: &Block) {
+        let candidates = || {
+            let filed = block
+                .answers()
+                .filter_map(|(_, answer)| answer.as_ref().ok());
+            filed.filter_map(|filed| self.slots[self.home(filed.hash)].candidate(filed.hash))
+        };
+        hint::black_box(candidates().fold(0, |all, figure| all ^ figure));
+        let kept = candidates().filter_map(|figure| self.all[figure as usize].record);
+        let records = kept.map(|record| self.records[record as usize].as_bytes()[0]);
+        hint::black_box(records.fold(0, |all, byte| all ^ byte));
+    }
+
     /// The figure that has this record, or the slot for it.
-    fn find(&self, hash: u64, record: &[u8]) -> Result<u32, usize> {
-        let mut at = self.home(hash);
-        while let Some(figure) = self.slots[at].number.checked_sub(1) {
-            let candidate = self.slots[at].hash == upper(hash);
-            if candidate && self.records[self.all[figure as usize].record.clone()] == *record {
+    fn find(&mut self, filed: &Filed) -> Result<u32, usize> {
+        let mut at = self.home(filed.hash);
+        while self.slots[at].number != 0 {
+            let candidate = self.slots[at].candidate(filed.hash);
+            if let Some(figure) = candidate.filter(|&figure| *self.record(figure) == filed.record) {
                 return Ok(figure);
             }
             at = (at + 1) % self.slots.len();
@@ -144,12 +116,26 @@ impl Figures {
         Err(at)
     }
 
-    fn file(&mut self, slot: usize, record: &[u8], first: Headword) {
-        let from = self.records.len();
-        self.records.extend_from_slice(record);
-        let record = from..self.records.len();
-        let hash = first.filed.hash;
-        self.all.push(Figure { record, first });
+    /// The record of a figure, which is kept from now on.
+    fn record(&mut self, figure: u32) -> &Record {
+        let figure = figure as usize;
+        let kept = self.all[figure].record.unwrap_or_else(|| {
+            let text = self.typed(&self.all[figure].first).text;
+            let filed = Record::of_text(text, self.infinite);
+            let (record, _) = filed.expect("the library accepts what it accepted before");
+            self.records.push(record);
+            small(self.records.len() - 1)
+        });
+        self.all[figure].record = Some(kept);
+        &self.records[kept as usize]
+    }
+
+    fn add(&mut self, slot: usize, hash: u64, first: Headword) {
+        self.all.push(Figure {
+            first,
+            hash,
+            record: None,
+        });
         self.slots[slot] = Slot {
             hash: upper(hash),
             number: small(self.all.len()),
@@ -163,13 +149,12 @@ impl Figures {
     fn grow(&mut self) {
         self.slots = vec![Slot::default(); 2 * self.slots.len()];
         for (number, figure) in (1..).zip(&self.all) {
-            let hash = figure.first.filed.hash;
-            let mut at = self.home(hash);
+            let mut at = self.home(figure.hash);
             while self.slots[at].number != 0 {
                 at = (at + 1) % self.slots.len();
             }
             self.slots[at] = Slot {
-                hash: upper(hash),
+                hash: upper(figure.hash),
                 number,
             };
         }
@@ -181,6 +166,16 @@ impl Figures {
     )]
     fn home(&self, hash: u64) -> usize {
         hash as usize % self.slots.len()
+    }
+
+    /// A headword as it was typed.
+    pub fn typed(&self, headword: &Headword) -> Typed<'_> {
+        let (text, note) = self.typed[headword.from..].split_at(headword.text.into());
+        Typed {
+            place: headword.place,
+            text,
+            note: &note[..headword.note.into()],
+        }
     }
 
     /// How many figures there are.
@@ -195,7 +190,7 @@ impl Figures {
 
     /// After [`Figures::sort`], the headwords of each figure that has more than one, in the order in
     /// which they came; the figures in the order of their first ones.
-    pub fn groups(&self) -> impl Iterator<Item = Vec<&Headword>> {
+    pub fn groups(&self) -> impl Iterator<Item = Vec<&Headword>> + '_ {
         let groups = self.repeats.chunk_by(|(a, _), (b, _)| a == b);
         groups.map(|group| {
             let first = &self.all[group[0].0 as usize].first;
@@ -203,76 +198,60 @@ impl Figures {
             iter::once(first).chain(others).collect()
         })
     }
-
-    /// A headword as it was typed.
-    pub fn typed(&self, headword: &Headword) -> Typed<'_> {
-        let (text, note) = self.typed[headword.from..].split_at(headword.text.into());
-        let note = &note[..headword.note.into()];
-        Typed {
-            place: headword.place,
-            text,
-            note,
-        }
-    }
-}
-
-/// A number in as many bits as it needs: an accepted text has at most 255 bytes and nine nodes, of a
-/// line 4,096 bytes are kept, and 2^32 figures need some hundred gigabytes.
-fn small<T: TryInto<U> + Copy + Display, U>(number: T) -> U {
-    let small = number.try_into();
-    small.unwrap_or_else(|_| panic!("{number} is more than this program can keep"))
 }
 
 #[cfg(test)]
 mod tests {
-    use super::{Figures, Filed, Place, Typed};
+    use lexicon::Record;
 
-    /// Adds records as the headwords of lines 1, 2, 3..., each with a hash, and tells the groups.
-    fn groups(records: &[(&[u8], u64)]) -> Vec<Vec<u64>> {
-        let mut figures = Figures::new();
-        for (line, &(record, hash)) in (1..).zip(records) {
-            let place = Place { file: 0, line };
+    use super::{Figures, Filed, Numbering, Place, Typed};
+
+    /// Takes texts as the headwords of lines 1, 2, 3..., each with a hash, and tells the groups.
+    fn groups<'a>(headwords: impl IntoIterator<Item = (&'a str, u64)>) -> Vec<Vec<u64>> {
+        let mut figures = Figures::new(false);
+        for (line, (text, hash)) in (1..).zip(headwords) {
             let typed = Typed {
-                place,
-                text: b"x",
+                place: Place { file: 0, line },
+                text: text.as_bytes(),
                 note: b"",
             };
-            let filed = Filed {
-                hash,
-                numbering: 0,
-                nodes: 1,
-            };
-            figures.add(&typed, &filed, record);
+            let (record, numbering) = Record::of_text(text, false).unwrap();
+            let numbering = Numbering::new(&numbering);
+            figures.take(
+                &typed,
+                &Filed {
+                    record,
+                    hash,
+                    numbering,
+                },
+            );
         }
         figures.sort();
         let lines = |group: Vec<&super::Headword>| {
             group.iter().map(|headword| headword.place.line).collect()
         };
-        figures.groups().map(lines).collect()
+        let groups = figures.groups().map(lines);
+        groups.collect()
     }
 
     #[test]
     fn a_hash_only_finds_candidates() {
-        assert_eq!(
-            groups(&[(b"a", 7), (b"b", 7), (b"a", 7), (b"ab", 7), (b"b", 7)]),
-            [[1, 3], [2, 5]]
-        );
+        let headwords = [("x3o", 7), ("x4o", 7), ("o3x", 7), ("x5o", 7), ("o4x", 7)];
+        assert_eq!(groups(headwords), [[1, 3], [2, 5]]);
         // hashes with one half alike
-        assert!(groups(&[(b"a", 7), (b"b", 7 + (1 << 32)), (b"c", 7 + (1 << 20))]).is_empty());
+        let headwords = [("x3o", 7), ("x4o", 7 + (1 << 32)), ("x5o", 7 + (1 << 20))];
+        assert!(groups(headwords).is_empty());
     }
 
     #[test]
     fn figures_are_found_again_when_the_table_has_grown() {
-        let numbers: Vec<[u8; 2]> = (0..5000_u16).map(u16::to_be_bytes).collect();
-        let records = numbers
+        let texts: Vec<String> = (3..5003).map(|number| format!("x{number}o")).collect();
+        let hashed = texts
             .iter()
-            .chain(&numbers)
-            .map(|number| (&number[..], u64::from(number[1]) << 31));
-        let groups = groups(&records.collect::<Vec<_>>());
-        assert!(groups
-            .iter()
-            .enumerate()
-            .all(|(i, group)| *group == [i as u64 + 1, i as u64 + 5001]));
-        assert_eq!(groups.len(), 5000);
+            .map(|text| (&text[..], (text.len() as u64 % 3) << 31));
+        let expected = (1..=5000).map(|line| vec![line, line + 5000]);
+        assert!(groups(hashed.clone().chain(hashed))
+            .into_iter()
+            .eq(expected));
     }
 }

@@ -12,7 +12,6 @@ use crate::{
     block::{Place, Typed},
     figures::{Figures, Headword},
     names::names,
-    output::Output,
     refusals::{self, shown},
 };
 
@@ -27,73 +26,76 @@ pub struct Totals {
     pub repeated: usize,
 }
 
-/// Where findings go.
-pub struct Report<'a> {
-    out: &'a mut Output,
+/// How findings are told.
+pub struct Report {
     /// The names of the files.
     files: Vec<String>,
     json: bool,
 }
 
-impl<'a> Report<'a> {
-    pub fn new(out: &'a mut Output, files: &[&PathBuf], json: bool) -> Self {
+impl Report {
+    pub fn new(files: &[&PathBuf], json: bool) -> Self {
         let name = |file: &&PathBuf| shown(file.as_os_str().as_encoded_bytes()).into_owned();
         let files = files.iter().map(name).collect();
-        Self { out, files, json }
+        Self { files, json }
     }
 
     /// A headword that is refused.
-    pub fn refused(&mut self, typed: &Typed, refusal: &CdError) -> io::Result<()> {
+    pub fn refused(&self, out: &mut impl Write, typed: &Typed, e: &CdError) -> io::Result<()> {
         if !self.json {
-            let place = self.place(typed);
-            return refusals::report(self.out, &place, typed.text, typed.note, refusal);
+            let place = format!("{}:{}:", self.file(typed.place), typed.place.line);
+            return refusals::report(out, &place, typed.text, typed.note, e);
         }
         let mut finding = self.headword(typed);
         finding["finding"] = "refused".into();
-        finding["column"] = refusals::column(refusal).into();
-        finding["refusal"] = refusal.number().into();
-        finding["fields"] = refusal.fields().into();
-        finding["message"] = refusals::what(refusal).into();
-        finding["advice"] = refusals::advice(refusal).into();
-        self.write(&finding)
+        finding["column"] = refusals::column(e).into();
+        finding["refusal"] = e.number().into();
+        finding["fields"] = e.fields().into();
+        finding["message"] = refusals::what(e).into();
+        finding["advice"] = refusals::advice(e).into();
+        writeln!(out, "{finding}")
     }
 
     /// Headwords that are one figure, each with its nodes in the order of the first one's.
-    pub fn one_figure(&mut self, figures: &Figures, group: &[&Headword]) -> io::Result<()> {
-        let places = group[0].places();
-        if !self.json {
-            return self.rows(figures, group, &places);
-        }
+    pub fn one_figure(
+        &self,
+        out: &mut Vec<u8>,
+        figures: &Figures,
+        group: &[&Headword],
+    ) -> io::Result<()> {
+        let places = group[0].numbering.places();
         let headwords = group.iter().map(|headword| {
-            let mut finding = self.headword(&figures.typed(headword));
-            finding["nodes"] = headword.nodes(&places).collect();
+            let nodes = headword.numbering.nodes(&places);
+            (figures.typed(headword), nodes)
+        });
+        if !self.json {
+            return self.rows(out, headwords);
+        }
+        let headwords = headwords.map(|(typed, nodes)| {
+            let mut finding = self.headword(&typed);
+            finding["nodes"] = nodes.collect();
             finding
         });
         let headwords: Vec<Value> = headwords.collect();
-        self.write(&json!({ "finding": "one figure", "headwords": headwords }))
+        let finding = json!({ "finding": "one figure", "headwords": headwords });
+        writeln!(out, "{finding}")
     }
 
-    fn rows(&mut self, figures: &Figures, group: &[&Headword], places: &[u8]) -> io::Result<()> {
-        let lines = group.len();
+    fn rows<'a, N: Iterator<Item = usize>>(
+        &self,
+        out: &mut Vec<u8>,
+        headwords: impl ExactSizeIterator<Item = (Typed<'a>, N)> + Clone,
+    ) -> io::Result<()> {
+        let lines = headwords.len();
         writeln!(
-            self.out,
+            out,
             "{lines} lines are one figure, their nodes in corresponding order:"
         )?;
-        let place = group
-            .iter()
-            .map(|headword| self.width(headword.place))
-            .max();
-        let text = group
-            .iter()
-            .map(|headword| figures.typed(headword).text.len())
-            .max();
-        let widths = (place.unwrap_or(0), text.unwrap_or(0));
-        let mut row = Vec::new();
-        for headword in group {
-            row.clear();
-            let nodes = headword.nodes(places);
-            self.row(&mut row, widths, &figures.typed(headword), nodes)?;
-            self.out.write_all(&row)?;
+        let place = headwords.clone().map(|(typed, _)| self.width(typed.place));
+        let text = headwords.clone().map(|(typed, _)| typed.text.len());
+        let widths = (place.max().unwrap_or(0), text.max().unwrap_or(0));
+        for (typed, nodes) in headwords {
+            self.row(out, widths, &typed, nodes)?;
         }
         Ok(())
     }
@@ -101,89 +103,71 @@ impl<'a> Report<'a> {
     /// There may be many rows, so each is put together by hand.
     fn row(
         &self,
-        row: &mut Vec<u8>,
+        out: &mut Vec<u8>,
         (place, text): (usize, usize),
         typed: &Typed,
         nodes: impl Iterator<Item = usize>,
     ) -> io::Result<()> {
-        let file = &self.files[typed.place.file as usize];
-        write!(row, "  {file}:{}:", typed.place.line)?;
-        row.resize(row.len() + place - self.width(typed.place) + 1, b' ');
-        row.extend_from_slice(shown(typed.text).as_bytes());
-        row.resize(row.len() + text - typed.text.len() + 1, b' ');
-        write!(row, " {}", names(nodes))?;
-        write!(row, "  {}", shown(typed.note))?;
-        row.truncate(row.trim_ascii_end().len());
-        row.push(b'\n');
+        write!(out, "  {}:{}:", self.file(typed.place), typed.place.line)?;
+        out.resize(out.len() + place - self.width(typed.place) + 1, b' ');
+        out.extend_from_slice(shown(typed.text).as_bytes());
+        out.resize(out.len() + text - typed.text.len() + 1, b' ');
+        write!(out, " {}  {}", names(nodes), shown(typed.note))?;
+        out.truncate(out.trim_ascii_end().len());
+        out.push(b'\n');
         Ok(())
     }
 
     /// How many characters a file's name and a line's digits have.
     fn width(&self, place: Place) -> usize {
         let digits = place.line.checked_ilog10().unwrap_or(0) as usize + 1;
-        self.files[place.file as usize].chars().count() + digits
+        self.file(place).chars().count() + digits
     }
 
     /// The last line.
-    pub fn totals(&mut self, totals: &Totals) -> io::Result<()> {
-        let &Totals {
-            lines,
-            refused,
-            cr_lf,
-            figures,
-            repeated,
-        } = totals;
-        let accepted = lines - refused;
+    pub fn totals(&self, out: &mut impl Write, totals: &Totals) -> io::Result<()> {
+        let accepted = totals.lines - totals.refused;
         if self.json {
-            return self.write(&json!({
+            let finding = json!({
                 "finding": "totals",
-                "lines": lines,
+                "lines": totals.lines,
                 "accepted": accepted,
-                "refused": refused,
-                "figures": figures,
-                "repeated": repeated,
-                "cr lf": cr_lf,
-            }));
+                "refused": totals.refused,
+                "figures": totals.figures,
+                "repeated": totals.repeated,
+                "cr lf": totals.cr_lf,
+            });
+            return writeln!(out, "{finding}");
         }
-        let s = |many: bool| if many { "s" } else { "" };
-        let line = s(lines != 1);
-        let figure = s(figures != 1);
+        let s = |number: u64| if number == 1 { "" } else { "s" };
+        let (lines, refused, cr_lf) = (totals.lines, totals.refused, totals.cr_lf);
+        let (figures, repeated) = (totals.figures as u64, totals.repeated);
         write!(
-            self.out,
-            "{lines} line{line}: {accepted} accepted, {refused} refused; "
+            out,
+            "{lines} line{}: {accepted} accepted, {refused} refused; ",
+            s(lines)
         )?;
         write!(
-            self.out,
-            "{figures} figure{figure}, {repeated} of them more than once"
+            out,
+            "{figures} figure{}, {repeated} of them more than once",
+            s(figures)
         )?;
         if cr_lf > 0 {
-            write!(
-                self.out,
-                "; CR LF taken as the end of {cr_lf} line{}",
-                s(cr_lf != 1)
-            )?;
+            write!(out, "; CR LF taken as the end of {cr_lf} line{}", s(cr_lf))?;
         }
-        writeln!(self.out)
-    }
-
-    fn place(&self, typed: &Typed) -> String {
-        format!(
-            "{}:{}:",
-            self.files[typed.place.file as usize], typed.place.line
-        )
+        writeln!(out)
     }
 
     fn headword(&self, typed: &Typed) -> Value {
         json!({
-            "file": self.files[typed.place.file as usize],
+            "file": self.file(typed.place),
             "line": typed.place.line,
             "text": String::from_utf8_lossy(typed.text),
             "note": String::from_utf8_lossy(typed.note),
         })
     }
 
-    fn write(&mut self, finding: &Value) -> io::Result<()> {
-        serde_json::to_writer(&mut *self.out, finding)?;
-        writeln!(self.out)
+    fn file(&self, place: Place) -> &str {
+        &self.files[place.file as usize]
     }
 }

@@ -65,7 +65,7 @@ fn not_made_of_refused_texts() {
     let out = "-:2:2: no edge has the numbers 1/1\n  x1o\n   ^\n  \
                refusal 7. An edge is a number of at least 2, or a fraction greater than 1.\n\
                -:3: x is the figure of -:1: x\n\
-               -:4:1: the text ends too soon\n  \n  ^\n  \
+               -:4:1: the text ends too soon\n\n  ^\n  \
                refusal 4. Type what is missing, a node after an edge for instance, or remove the spaces at the end.\n\
                articles.shelf: not made\n";
     folder
