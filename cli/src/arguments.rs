@@ -101,7 +101,7 @@ Exit status: 0, 1 if the file is refused, 2 for a failure.
 
 Example:
   $ lexicon shelf check articles.shelf
-  articles.shelf: 214 places";
+  articles.shelf: 2 places";
 
 const SHELF_FIND: &str = "\
 All texts are looked for, whether or not others are refused.
@@ -110,8 +110,8 @@ Exit status: 0, 1 if a text is not there or is refused, or if the file is, 2 for
 
 Example:
   $ lexicon shelf find articles.shelf o4o3x x3o
-  o4o3x: place 17
-  x3o: not there, would be place 2";
+  o4o3x: place 1
+  x3o: not there, would be place 1";
 
 const SHELF_ADD: &str = "\
 All texts are added in one replacement of the file, or none is: not if one of them is refused or there
@@ -123,10 +123,10 @@ Exit status: 0, 1 if nothing was added because of a text or because the file is 
 failure.
 
 Example:
-  $ lexicon shelf add articles.shelf x3o4o x5o3o
-  x3o4o: added, place 17
-  x5o3o: added, place 14
-  articles.shelf: 216 places";
+  $ lexicon shelf add articles.shelf x3o x5o3o
+  x3o: added, place 1
+  x5o3o: added, place 2
+  articles.shelf: 4 places";
 
 const SHELF_LIST: &str = "\
 On each place a line: its number, a tab, and a text of its figure, which the library reads to the
@@ -135,8 +135,9 @@ record that stands there. A record that no text has is told by its nodes and edg
 Exit status: 0, 1 if the file is refused, 2 for a failure.
 
 Example:
-  $ lexicon shelf list articles.shelf | sed -n 18p
-  17	x3o4o";
+  $ lexicon shelf list articles.shelf
+  0	x
+  1	x3o4o";
 
 const SHELF_MAKE: &str = "\
 Each line of standard input is a text; LF or CR LF ends it. A figure that stands twice is told, and
@@ -201,7 +202,8 @@ fn check() -> Command {
             .value_name("FORMAT")
             .value_parser(PossibleValuesParser::new(["text", "json"]))
             .default_value("text")
-            .help("json: one JSON document a finding"),
+            .hide_possible_values(true)
+            .help("text, or json: a JSON document a finding"),
     )
 }
 

@@ -2,18 +2,18 @@
 
 mod common;
 
-use std::{fs, os::unix::process::CommandExt, process::Command};
+use std::{fs, process::Command};
 
-use common::{folder, lexicon, run, script, Ran, LEXICON};
+use common::{as_user, lexicon, script, Folder, Run, LEXICON};
 
 const NOTHING: &str = "0 lines: 0 accepted, 0 refused; 0 figures, 0 of them more than once\n";
 
 /// What is told of a list that is read from standard input.
-fn check(list: impl AsRef<[u8]>) -> Ran {
+fn check(list: impl AsRef<[u8]>) -> Run {
     lexicon(&["check", "-"], list)
 }
 
-fn last(ran: &Ran) -> &str {
+fn last(ran: &Run) -> &str {
     ran.out.lines().last().unwrap()
 }
 
@@ -60,10 +60,10 @@ fn refusals_are_told_as_a_compiler_tells_them() {
 
 #[test]
 fn lines_that_are_one_figure_meet_across_files() {
-    let folder = folder("across");
-    fs::write(folder.join("a.txt"), "x3o4o\nx\nx5/2o5o\n").unwrap();
-    fs::write(folder.join("b.txt"), "o5o5/2x\no4o3x\nx6/2o4o").unwrap();
-    let ran = script(&folder, "lexicon check a.txt b.txt");
+    let folder = Folder::new();
+    folder.write("a.txt", "x3o4o\nx\nx5/2o5o\n");
+    folder.write("b.txt", "o5o5/2x\no4o3x\nx6/2o4o");
+    let ran = folder.script("lexicon check a.txt b.txt");
     let expected = "\
 3 lines are one figure, their nodes in corresponding order:
   a.txt:1: x3o4o    a b c
@@ -162,9 +162,9 @@ fn a_million_lines() {
 
 #[test]
 fn files_that_cannot_be_read_are_told_and_the_others_checked() {
-    let folder = folder("unreadable");
-    fs::write(folder.join("good"), "x\n").unwrap();
-    let ran = script(&folder, "lexicon check missing good . good");
+    let folder = Folder::new();
+    folder.write("good", "x\n");
+    let ran = folder.script("lexicon check missing good . good");
     assert_eq!(ran.status, Some(2));
     assert_eq!(
         ran.err,
@@ -174,72 +174,49 @@ fn files_that_cannot_be_read_are_told_and_the_others_checked() {
         last(&ran),
         "2 lines: 2 accepted, 0 refused; 1 figure, 1 of them more than once"
     );
-    assert_eq!(script(&folder, "lexicon check - <.").status, Some(2));
+    assert_eq!(folder.script("lexicon check - <.").status, Some(2));
 }
 
-/// As nobody where the test is run by root, whom no permission stops.
 #[test]
 fn a_file_without_permission() {
-    let list = std::env::temp_dir().join(format!("lexicon-list-{}", std::process::id()));
-    let command = list.with_extension("command");
-    fs::write(&list, "x\n").unwrap();
-    fs::copy(LEXICON, &command).unwrap();
-    let folder = list.parent().unwrap();
-    assert!(
-        script(
-            folder,
-            &format!(
-                "chmod 0 {}; chmod 755 {}",
-                list.display(),
-                command.display()
-            )
-        )
-        .status
-            == Some(0)
-    );
-    let root = script(folder, "id -u").out == "0\n";
-    let mut nobody = Command::new(&command);
-    if root {
-        nobody.uid(65534).gid(65534);
-    }
-    let ran = run(nobody.arg("check").arg(&list), b"");
-    fs::remove_file(&list).unwrap();
-    fs::remove_file(&command).unwrap();
-    assert_eq!(ran.status, Some(2), "{ran:?}");
-    assert!(
-        ran.err.ends_with("Permission denied (os error 13)\n"),
-        "{ran:?}"
-    );
+    let folder = Folder::open_to_all();
+    folder.write("list", "x\n");
+    folder.script("chmod 0 list").gives(0, "", "");
+    let mut check = Command::new(LEXICON);
+    let run = Run::of(&mut as_user(&folder, check.args(["check", "list"])));
+    assert_eq!((run.status, &run.out[..]), (Some(2), NOTHING));
+    assert_eq!(run.err, "lexicon: list: Permission denied (os error 13)\n");
 }
 
 #[test]
 fn output_that_cannot_be_written_is_a_failure() {
-    let folder = folder("output");
+    let folder = Folder::new();
     for command in ["check list", "record x", "same x x", "show x"] {
-        fs::write(folder.join("list"), "x\n").unwrap();
-        let full = script(&folder, &format!("lexicon {command} >/dev/full"));
+        folder.write("list", "x\n");
+        let full = folder.script(&format!("lexicon {command} >/dev/full"));
         assert_eq!(full.status, Some(2), "{command}");
         assert_eq!(
             full.err,
             "lexicon: standard output: No space left on device (os error 28)\n"
         );
-        let closed = script(&folder, &format!("lexicon {command} >&-"));
+        let closed = folder.script(&format!("lexicon {command} >&-"));
         assert_eq!(closed.status, Some(2), "{command}");
         assert_eq!(
             closed.err,
             "lexicon: standard output: Bad file descriptor (os error 9)\n"
         );
         assert_eq!(
-            script(&folder, &format!("lexicon {command} >/dev/null")).status,
+            folder
+                .script(&format!("lexicon {command} >/dev/null"))
+                .status,
             Some(0)
         );
     }
-    fs::write(folder.join("list"), "x_\n".repeat(100_000)).unwrap();
+    folder.write("list", "x_\n".repeat(100_000));
     for command in ["check list", "check --format json list", "record <list"] {
-        let head = script(
-            &folder,
-            &format!("lexicon {command} | head -1; exit ${{PIPESTATUS[0]}}"),
-        );
+        let head = folder.script(&format!(
+            "lexicon {command} | head -1; exit ${{PIPESTATUS[0]}}"
+        ));
         assert_eq!((head.status, &head.err[..]), (Some(2), ""), "{command}");
     }
 }

@@ -1,12 +1,10 @@
 //! `lexicon draw`, as it is run.
 
-use std::{
-    collections::BTreeSet,
-    fmt::Write,
-    fs,
-    path::PathBuf,
-    process::{Command, Output},
-};
+mod common;
+
+use std::{collections::BTreeSet, fmt::Write, fs};
+
+use common::{lexicon, Folder, Run};
 
 /// The least distances that the pictures promise, in their pixels, less what rounding takes.
 const APART: f64 = 37.7;
@@ -15,17 +13,15 @@ const ASIDE: f64 = 16.1;
 type Point = (f64, f64);
 type Edges = BTreeSet<(usize, usize)>;
 
-fn run(arguments: &[&str]) -> Output {
-    let mut command = Command::new(env!("CARGO_BIN_EXE_lexicon"));
-    let output = command.arg("draw").args(arguments).output();
-    output.expect("the program runs")
+fn run(arguments: &[&str]) -> Run {
+    lexicon(&[&["draw"], arguments].concat(), "")
 }
 
 /// The picture of a text.
 fn draw(text: &str) -> String {
-    let output = run(&["--infinite", "-o", "-", "--", text]);
-    assert!(output.status.success(), "{text}: {output:?}");
-    String::from_utf8(output.stdout).expect("an SVG is UTF-8")
+    let run = run(&["--infinite", "-o", "-", "--", text]);
+    assert_eq!(run.status, Some(0), "{text}: {run:?}");
+    run.out
 }
 
 /// The value of an attribute of an element on its own line.
@@ -309,55 +305,29 @@ fn no_nodes() {
     assert!(svg.contains("<title>Coxeter diagram of 0 nodes</title>"));
 }
 
-/// A directory of its own for a test.
-fn directory(name: &str) -> PathBuf {
-    let directory = PathBuf::from(env!("CARGO_TARGET_TMPDIR")).join(format!("draw-{name}"));
-    let _ = fs::remove_dir_all(&directory);
-    fs::create_dir_all(&directory).expect("a directory can be made");
-    directory
-}
-
-fn names(directory: &PathBuf) -> Vec<String> {
-    let entries = fs::read_dir(directory).expect("a directory can be read");
-    entries
-        .map(|entry| {
-            entry
-                .expect("an entry")
-                .file_name()
-                .to_string_lossy()
-                .into_owned()
-        })
-        .collect()
-}
-
 #[test]
 fn files_are_written_whole_or_not_at_all() {
-    let directory = directory("files");
-    let path = directory.join("a.svg");
+    let folder = Folder::new();
+    let path = folder.path("a.svg");
     let name = path.to_str().expect("a name in UTF-8");
     let refused = run(&["x1o", "-o", name]);
-    assert_eq!(refused.status.code(), Some(1));
-    assert!(refused.stdout.is_empty());
-    let said = String::from_utf8_lossy(&refused.stderr).into_owned();
-    assert!(said.starts_with("TEXT:2: "), "{said}");
-    assert!(
-        names(&directory).is_empty(),
-        "a refused text leaves no file"
-    );
+    assert_eq!((refused.status, &refused.out[..]), (Some(1), ""));
+    assert!(refused.err.starts_with("TEXT:2: "), "{refused:?}");
+    assert!(folder.names().is_empty(), "a refused text leaves no file");
 
     for text in ["x3o4o", "x4o3o"] {
-        assert!(run(&[text, "-o", name]).status.success());
+        run(&[text, "-o", name]).gives(0, "", "");
         assert_eq!(fs::read_to_string(&path).expect("a picture"), draw(text));
-        assert_eq!(names(&directory), ["a.svg"]);
+        assert_eq!(folder.names(), ["a.svg"]);
     }
-    let missing = directory.join("none").join("a.svg");
-    for path in [&missing, &directory] {
+    let missing = folder.path("none").join("a.svg");
+    for path in [&missing, &folder.0] {
         let failed = run(&["x3o4o", "-o", path.to_str().expect("a name in UTF-8")]);
-        assert_eq!(failed.status.code(), Some(2), "{failed:?}");
-        assert!(!failed.stderr.is_empty());
+        assert_eq!(failed.status, Some(2), "{failed:?}");
+        assert!(!failed.err.is_empty());
     }
-    assert_eq!(names(&directory), ["a.svg"]);
-    assert_eq!(run(&["(inf)", "-o", "-"]).status.code(), Some(1));
+    assert_eq!(folder.names(), ["a.svg"]);
+    assert_eq!(run(&["(inf)", "-o", "-"]).status, Some(1));
 }
 
 #[test]

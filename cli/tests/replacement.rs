@@ -1,6 +1,7 @@
 //! Replacements of a shelf file that are killed, fail, run into each other or into other programs:
 //! the file is always the old shelf or the new one, and the next run leaves no stray file.
 
+mod common;
 mod shelf_tools;
 
 use std::{
@@ -13,10 +14,11 @@ use std::{
     time::Duration,
 };
 
+use common::{as_user, is_root, Folder, Run};
 use shelf_tools::{
-    access, as_user,
+    access,
     faults::{at, before_each, calls, first, Fault},
-    is_root, shelf_of, Chance, Folder, Run,
+    shelf_of, Chance,
 };
 
 const NAME: &str = "articles.shelf";

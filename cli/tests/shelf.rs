@@ -1,5 +1,6 @@
 //! The subcommands of `lexicon shelf`: what they say, and their exit statuses.
 
+mod common;
 mod shelf_tools;
 
 use std::{
@@ -8,8 +9,9 @@ use std::{
     process::{Command, Stdio},
 };
 
+use common::{as_user, Folder, Run};
 use lexicon::{Cd, Record};
-use shelf_tools::{as_user, record, shelf_of, Chance, Folder, Run};
+use shelf_tools::{record, shelf_of, Chance};
 
 const SHELF: [&str; 5] = ["x", "x3o4o", "x5o3o", "(1.5)3q", "x3o3o *b3o"];
 

@@ -1,5 +1,6 @@
 //! `lexicon show`, run as a program.
 
+mod common;
 #[path = "show/geometry.rs"]
 mod geometry;
 #[path = "show/random.rs"]
@@ -7,27 +8,22 @@ mod random;
 #[path = "show/reader.rs"]
 mod reader;
 
-use std::{
-    process::{Command, Output},
-    str::FromStr,
-    thread,
-};
+use std::{str::FromStr, thread};
 
+use common::{lexicon, Run};
 use lexicon::{Cd, Node};
 use random::Random;
 use reader::Said;
 
-fn run(arguments: &[&str]) -> Output {
-    let mut command = Command::new(env!("CARGO_BIN_EXE_lexicon"));
-    command.arg("show").args(arguments).output().unwrap()
+fn run(arguments: &[&str]) -> Run {
+    lexicon(&[&["show"], arguments].concat(), "")
 }
 
 /// The lines of a run that must go well.
 fn lines(arguments: &[&str]) -> Vec<String> {
-    let output = run(arguments);
-    assert_eq!(output.status.code(), Some(0), "{arguments:?}");
-    assert!(output.stderr.is_empty(), "{arguments:?}");
-    let text = String::from_utf8(output.stdout).unwrap();
+    let Run { status, out, err } = run(arguments);
+    assert_eq!((status, &err[..]), (Some(0), ""), "{arguments:?}");
+    let text = out;
     assert!(text.is_ascii() && text.ends_with('\n'), "{arguments:?}");
     text.lines().map(str::to_owned).collect()
 }
@@ -177,27 +173,11 @@ fn drawings_look_as_they_should() {
 }
 
 #[test]
-fn the_example_of_the_help_is_real() {
-    let mut help = Command::new(env!("CARGO_BIN_EXE_lexicon"));
-    let help = help.args(["help", "show"]).output().unwrap().stdout;
-    let help = String::from_utf8(help).unwrap();
-    let (_, example) = help.split_once("$ lexicon show '").unwrap();
-    let (text, shown) = example.split_once("'\n").unwrap();
-    let shown: Vec<_> = shown
-        .trim_end()
-        .lines()
-        .map(|line| line.get(2..).unwrap_or(""))
-        .collect();
-    assert_eq!(lines(&[text]), shown);
-}
-
-#[test]
 fn refused_texts_are_told() {
-    let output = run(&["x1o"]);
-    assert_eq!(output.status.code(), Some(1));
-    assert!(output.stdout.is_empty());
-    assert!(output.stderr.starts_with(b"TEXT:2: "));
+    let refused = run(&["x1o"]);
+    assert_eq!((refused.status, &refused.out[..]), (Some(1), ""));
+    assert!(refused.err.starts_with("TEXT:2: "));
 
-    assert_eq!(run(&["(inf)3o"]).status.code(), Some(1));
-    assert_eq!(run(&["--infinite", "(inf)3o"]).status.code(), Some(0));
+    assert_eq!(run(&["(inf)3o"]).status, Some(1));
+    assert_eq!(run(&["--infinite", "(inf)3o"]).status, Some(0));
 }

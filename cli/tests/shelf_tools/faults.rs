@@ -2,7 +2,7 @@
 
 use std::{fs, path::PathBuf, process::Command, sync::OnceLock};
 
-use super::{Folder, Run};
+use crate::common::{Folder, Run};
 
 /// The library of `faults.c`, built once.
 fn library() -> &'static PathBuf {

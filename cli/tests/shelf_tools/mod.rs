@@ -6,65 +6,17 @@ pub mod faults;
 
 use std::{
     ffi::OsStr,
-    fs,
-    io::Write,
-    os::unix::{fs::PermissionsExt, process::CommandExt},
-    path::{Path, PathBuf},
-    process::{Command, Output, Stdio},
-    sync::atomic::{AtomicUsize, Ordering},
+    process::{Command, Stdio},
 };
 
 use lexicon::{Cd, Record, Shelf};
 
-/// A new empty folder, removed when the test is done with it.
-pub struct Folder(pub PathBuf);
+use crate::common::{Folder, Run, LEXICON};
 
 impl Folder {
-    pub fn new() -> Self {
-        Self::inside(Path::new(env!("CARGO_TARGET_TMPDIR")))
-    }
-
-    /// One that other users may enter and write in.
-    pub fn open_to_all() -> Self {
-        let folder = Self::inside(&std::env::temp_dir());
-        fs::set_permissions(&folder.0, PermissionsExt::from_mode(0o777)).unwrap();
-        folder
-    }
-
-    fn inside(parent: &Path) -> Self {
-        static COUNT: AtomicUsize = AtomicUsize::new(0);
-        let count = COUNT.fetch_add(1, Ordering::Relaxed);
-        let path = parent.join(format!("shelf-{}-{count}", std::process::id()));
-        fs::create_dir_all(&path).unwrap();
-        Self(path.canonicalize().unwrap()) // as the program tells it to the system
-    }
-
-    pub fn path(&self, name: &str) -> PathBuf {
-        self.0.join(name)
-    }
-
-    pub fn write(&self, name: &str, bytes: impl AsRef<[u8]>) -> PathBuf {
-        let path = self.path(name);
-        fs::write(&path, bytes).unwrap();
-        path
-    }
-
-    pub fn read(&self, name: &str) -> Vec<u8> {
-        fs::read(self.path(name)).unwrap()
-    }
-
-    /// The names in the folder, hidden ones too.
-    pub fn names(&self) -> Vec<String> {
-        let entries = fs::read_dir(&self.0).unwrap();
-        let names = entries.map(|entry| entry.unwrap().file_name().into_string().unwrap());
-        let mut names: Vec<_> = names.collect();
-        names.sort();
-        names
-    }
-
     /// `lexicon shelf` in this folder.
     pub fn command<S: AsRef<OsStr>>(&self, arguments: impl IntoIterator<Item = S>) -> Command {
-        let mut command = Command::new(env!("CARGO_BIN_EXE_lexicon"));
+        let mut command = Command::new(LEXICON);
         command.current_dir(&self.0).stdin(Stdio::null());
         command.arg("shelf").args(arguments);
         command
@@ -77,59 +29,7 @@ impl Folder {
 
     /// Runs `lexicon shelf make` on this list.
     pub fn make(&self, name: &str, list: &[u8]) -> Run {
-        let mut command = self.command(["make", name]);
-        command
-            .stdin(Stdio::piped())
-            .stdout(Stdio::piped())
-            .stderr(Stdio::piped());
-        let mut child = command.spawn().unwrap();
-        let _ = child.stdin.take().unwrap().write_all(list); // it may end before it reads
-        child.wait_with_output().unwrap().into()
-    }
-}
-
-impl Drop for Folder {
-    fn drop(&mut self) {
-        let _ = fs::remove_dir_all(&self.0);
-    }
-}
-
-/// What a run gave.
-#[derive(Debug)]
-pub struct Run {
-    /// The exit status, or none if a signal ended it.
-    pub status: Option<i32>,
-    pub out: String,
-    pub err: String,
-}
-
-impl Run {
-    pub fn of(command: &mut Command) -> Self {
-        command.output().unwrap().into()
-    }
-
-    /// Asserts the status and all that was written.
-    #[track_caller]
-    pub fn gives(&self, status: i32, out: &str, err: &str) {
-        let all = (self.status, &*self.out, &*self.err);
-        assert_eq!(all, (Some(status), out, err));
-    }
-
-    /// Asserts a failure that says this.
-    #[track_caller]
-    pub fn fails(&self, said: &str) {
-        assert_eq!((self.status, &*self.out), (Some(2), ""), "{self:?}");
-        assert!(self.err.contains(said), "{self:?}");
-    }
-}
-
-impl From<Output> for Run {
-    fn from(output: Output) -> Self {
-        Self {
-            status: output.status.code(),
-            out: String::from_utf8(output.stdout).unwrap(),
-            err: String::from_utf8(output.stderr).unwrap(),
-        }
+        Run::on(&mut self.command(["make", name]), list)
     }
 }
 
@@ -147,34 +47,6 @@ pub fn shelf_of<'a>(texts: impl IntoIterator<Item = &'a str>) -> Vec<u8> {
         .flat_map(|record| *record.as_bytes())
         .collect();
     Shelf::new(bytes).unwrap().into_bytes()
-}
-
-/// Whether the tests run as root, whom no permission stops.
-pub fn is_root() -> bool {
-    let status = fs::read_to_string("/proc/self/status").unwrap();
-    let ids = status
-        .lines()
-        .find_map(|line| line.strip_prefix("Uid:"))
-        .unwrap();
-    ids.split_whitespace().nth(1) == Some("0")
-}
-
-/// Lets the command run as a user whom permissions stop, from a copy that this user may run.
-pub fn as_user(folder: &Folder, command: &mut Command) -> Command {
-    let program = folder.path("program");
-    // By another process: a file that this one has open to write, and so for a moment also each
-    // child that another test starts, can't be run.
-    let mut copy = Command::new("cp");
-    copy.arg(command.get_program()).arg(&program);
-    assert!(copy.status().unwrap().success());
-    let mut user = Command::new(&program);
-    user.args(command.get_args())
-        .current_dir(&folder.0)
-        .stdin(Stdio::null());
-    if is_root() {
-        user.uid(65534).gid(65534);
-    }
-    user
 }
 
 /// Numbers by chance, the same in each run.

@@ -131,5 +131,5 @@ fn no_nodes_have_no_geometry() {
 
 #[test]
 fn bits_are_those_of_the_geometry() {
-    assert_eq!(run(&["x3o", "--bits"]).status.code(), Some(2));
+    assert_eq!(run(&["x3o", "--bits"]).status, Some(2));
 }
