@@ -47,7 +47,7 @@ callers: libs
 
 # The editor's command, over the Rust crate and Debian's crates.
 cli: libs
-	@cli/packages
+	@oracle/get_crates ahash clap indicatif libc serde_json
 	@cd cli && unset MAKEFLAGS LEXICON_LIB && cargo build --offline --quiet --release
 
 run: cli

@@ -7,8 +7,8 @@ use clap::{builder::PossibleValuesParser, value_parser, Arg, ArgAction, Command}
 const ABOUT: &str = "Keeps the headwords of a lexicon of polytopes, which are Coxeter diagrams typed as lines of text";
 
 const AFTER: &str = "\
-Nodes are named as the notation's references name them: a is the first that was typed, b the second.
-Every answer about a text, a record or a shelf is one of the proved library's.
+Nodes are named as the notation's references name them: a is the first that was typed, b the
+second. Every answer about a text, a record or a shelf is one of the proved library's.
 
 Exit status: 0 if nothing is wrong, 1 if something is, 2 if the work could not be done.
 
@@ -16,8 +16,8 @@ Exit status: 0 if nothing is wrong, 1 if something is, 2 if the work could not b
 
 const CHECK: &str = "\
 Each line of a file is a headword, an empty line too; LF or CR LF ends it. Each headword that is
-refused is told as FILE:LINE:COLUMN, then each group of lines that are one figure, a line for each
-with its nodes in corresponding order, then the totals. `-` is standard input.
+refused is told as FILE:LINE:COLUMN, then each group of lines that are one figure, a line for
+each with its nodes in corresponding order, then the totals. `-` is standard input.
 
 Exit status: 0 if nothing is wrong, 1 if a headword is refused or stands twice, 2 for a failure.
 
@@ -38,14 +38,16 @@ Example:
     o4o3x  c b a";
 
 const SHOW: &str = "\
-Chains stand on a line, branches, loops and all other edges below it. A number joins the nodes whose
-lines are at its ends; + joins lines, and a | within a row of - passes across it. x is a ringed node,
-s a snub one, o an unringed one, with lengths other than 1 in parentheses. The nodes a, b, c... are
-read along the line, then branch by branch; where they were typed in another order, names are shown.
+Chains stand on a line, branches, loops and all other edges below it. A number joins the nodes
+whose lines are at its ends; + joins lines, and a | within a row of - passes across it. x is a
+ringed node, s a snub one, o an unringed one, with lengths other than 1 in parentheses. The
+nodes a, b, c... are read along the line, then branch by branch; where they were typed in
+another order, their names are shown.
 
-With --geometry, decimals are the shortest that give the double back. The generator and its radius
-depend on the order of typing: those of x3o4o and o4o3x differ. Where there are no mirrors or no
-generator, the refusal is told in their place, and the status is 0, as nothing is wrong with the text.
+With --geometry, decimals are the shortest that give the double back. The generator and its
+radius depend on the order of typing: those of x3o4o and o4o3x differ. Where there are no
+mirrors or no generator, the refusal is told in their place, and the status is 0, as nothing is
+wrong with the text.
 
 Exit status: 0, 1 if the text is refused, 2 for a failure.
 
@@ -69,9 +71,9 @@ Example:
   minimal: yes, each component has a ringed node";
 
 const DRAW: &str = "\
-A ringed node is a dot with a ring, an unringed one a dot, a snub one an open circle. A length other
-than 1 is written at its node, a number other than 3 at its edge. Spellings of one figure are drawn
-alike but for loops.
+A ringed node is a dot with a ring, an unringed one a dot, a snub one an open circle. A length
+other than 1 is written at its node, by its letter if that is shorter, a number other than 3 at
+its edge. Spellings of one figure are drawn alike but for loops.
 
 Exit status: 0, 1 if the text is refused, 2 for a failure.
 
@@ -79,8 +81,8 @@ Example:
   $ lexicon draw 'o3o3o3o3o3x *c3o' -o e7.svg";
 
 const RECORD: &str = "\
-On each text a line: `ok`, the record's 740 hexadecimal digits and the numbering that gives it, or
-`no`, the refusal's number and its fields. On standard input LF alone ends a line.
+On each text a line: `ok`, the record's 740 hexadecimal digits and the numbering that gives it,
+or `no`, the refusal's number and its fields. On standard input LF alone ends a line.
 
 Exit status: 0, 1 if a text is refused, 2 for a failure.
 
@@ -114,10 +116,10 @@ Example:
   x3o: not there, would be place 1";
 
 const SHELF_ADD: &str = "\
-All texts are added in one replacement of the file, or none is: not if one of them is refused or there
-already, or two are one figure. Whatever happens, the file is the old shelf or the new one. Its
-permissions are kept, and a link to it stays one. One run at a time adds; others wait for it. What a
-killed run leaves beside FILE, .FILE.lexicon-new, the next one removes.
+All texts are added in one replacement of the file, or none is: not if one of them is refused or
+there already, or two are one figure. Whatever happens, the file is the old shelf or the new
+one. Its permissions are kept, and a link to it stays one. One run at a time adds; others wait
+for it. What a killed run leaves beside FILE, .FILE.lexicon-new, the next one removes.
 
 Exit status: 0, 1 if nothing was added because of a text or because the file is refused, 2 for a
 failure.
@@ -129,8 +131,8 @@ Example:
   articles.shelf: 4 places";
 
 const SHELF_LIST: &str = "\
-On each place a line: its number, a tab, and a text of its figure, which the library reads to the
-record that stands there. A record that no text has is told by its nodes and edges.
+On each place a line: its number, a tab, and a text of its figure, which the library reads to
+the record that stands there. A record that no text has is told by its nodes and edges.
 
 Exit status: 0, 1 if the file is refused, 2 for a failure.
 
@@ -140,11 +142,11 @@ Example:
   1	x3o4o";
 
 const SHELF_MAKE: &str = "\
-Each line of standard input is a text; LF or CR LF ends it. A figure that stands twice is told, and
-kept once; if a text is refused, it is told, and no file is made. FILE must not be there.
+Each line of standard input is a text; LF or CR LF ends it. A figure that stands twice is told,
+and kept once; if a text is refused, it is told, and no file is made. FILE must not be there.
 
-Exit status: 0; 1 if a text is refused, and no file is made, or if a figure stands twice, and the file
-is made; 2 for a failure.
+Exit status: 0; 1 if a text is refused, and no file is made, or if a figure stands twice, and
+the file is made; 2 for a failure.
 
 Example:
   $ printf 'x3o4o\\nx\\no4o3x\\n' | lexicon shelf make articles.shelf

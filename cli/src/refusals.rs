@@ -52,7 +52,7 @@ pub fn advice(refusal: &CdError) -> &'static str {
         }
         CdError::ParseError { .. } => "Type a number, such as 3 or 5/2 for an edge and (1.5) for a length.",
         CdError::InvalidSymbol { .. } => {
-            "Type a node (o, x, s, another letter of a length, or a length in parentheses), an edge, or a reference such as *a."
+            "Type a node (o, x, s, another letter of a length, or a length in parentheses), an edge, or a reference such as *a; nan is no length."
         }
         CdError::InvalidEdge { .. } => {
             "An edge is a number of at least 2, or a fraction greater than 1."

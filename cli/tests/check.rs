@@ -38,7 +38,7 @@ fn refusals_are_told_as_a_compiler_tells_them() {
 -:1:3: this symbol does not fit here
   x3_o
     ^
-  refusal 6. Type a node (o, x, s, another letter of a length, or a length in parentheses), an edge, or a reference such as *a.
+  refusal 6. Type a node (o, x, s, another letter of a length, or a length in parentheses), an edge, or a reference such as *a; nan is no length.
 -:2:5: the text ends too soon
   x3o4
       ^
@@ -97,7 +97,7 @@ fn a_tab_ends_a_text_only_where_notes_are_wished_for() {
 -:3:2: this symbol does not fit here
   x_   \u{fffd}[31mred
    ^
-  refusal 6. Type a node (o, x, s, another letter of a length, or a length in parentheses), an edge, or a reference such as *a.
+  refusal 6. Type a node (o, x, s, another letter of a length, or a length in parentheses), an edge, or a reference such as *a; nan is no length.
 2 lines are one figure, their nodes in corresponding order:
   -:1: x  a  3o
   -:2: x  a  y z

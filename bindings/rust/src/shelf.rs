@@ -171,7 +171,7 @@ impl Shelf {
     /// [`Record::from_trusted_bytes`] was given bytes that [`Record::from_bytes`] refuses,
     /// [`CdError::NoDiagram`] or [`CdError::NotSmallest`].
     ///
-    /// An editor's command adds an article so, and replaces the file:
+    /// The command `lexicon shelf add` replaces a file safely. In short, and without its lock:
     ///
     /// ```no_run
     /// use lexicon::{Cd, Shelf};
