@@ -95,12 +95,13 @@ BENCH = bench.c timing.c reading.c figure.c filing.c filing_plain.c shelf.c shel
 bench: libs oracle cli
 	@python3 oracle/corpus.py long >target/long.txt
 	@bench/headwords 1000000 1 >target/headwords.txt
+	@bench/headwords 1000000 1 few >target/headwords-few.txt
 	@$(CC) $(CFLAGS) -O3 -fno-math-errno -c -o target/float_plain.o bench/float_plain.c
 	@test -z "$$(nm -u target/float_plain.o)"
 	@if bench/get_nauty; then set -- -DNAUTY bench/filing_nauty.c -l:libnautyL1.a; fi; \
 	$(CC) $(CFLAGS) -O3 -Iinclude -o target/bench $(BENCH:%=bench/%) target/float_plain.o "$$@" \
 		$(LIB)/libfloat_c.a $(LIB)/liblexicon_c.a target/rust/release/libmiratope.a -lpthread -ldl -lm
-	@target/bench target/long.txt target/headwords.txt >target/table.md
+	@target/bench target/long.txt target/headwords.txt target/headwords-few.txt >target/table.md
 	@bench/write <target/table.md
 
 target:

@@ -1,5 +1,5 @@
 // Writes the table of docs/BENCHMARKS.md: the proved code beside the Rust, plain C and nauty, in one run.
-// Usage: bench LONG HEADWORDS, the long texts that `oracle/corpus.py long` writes, and the list that bench/headwords writes.
+// Usage: bench LONG HEADWORDS..., the long texts that `oracle/corpus.py long` writes, and lists that bench/headwords writes.
 #include "bench.h"
 
 #include <stdio.h>
@@ -8,8 +8,8 @@
 
 int main(int argc, char **argv)
 {
-    if (argc != 3) {
-        fprintf(stderr, "usage: %s LONG HEADWORDS\n", argv[0]);
+    if (argc < 2) {
+        fprintf(stderr, "usage: %s LONG HEADWORDS...\n", argv[0]);
         return 2;
     }
     put_head();
@@ -18,7 +18,8 @@ int main(int argc, char **argv)
     shelf_rows();
     cox_rows();
     float_rows();
-    command_rows(argv[2]);
+    for (int i = 2; i < argc; i++)
+        command_row(argv[i]);
 #ifndef NAUTY
     printf("\nnauty's rows are missing: Debian's libnauty2-dev can't be installed.\n");
 #endif

@@ -10,6 +10,6 @@ void cox_rows(void);
 void float_rows(void);
 
 // The file holds the headwords that bench/headwords writes.
-void command_rows(const char *path);
+void command_row(const char *path);
 
 #endif

@@ -86,26 +86,33 @@ static void run_command(const void *input, uint64_t turns)
         run_once(input, "/dev/null");
 }
 
+struct found {
+    size_t figures, memory;
+};
+
 // The command's last line must tell as many lines accepted, and no more, as the library accepts.
-static size_t check_command(const struct list *list)
+static struct found check_command(const struct list *list)
 {
     static const char OUTPUT[] = "target/headwords.found";
-    size_t memory = run_once(list, OUTPUT), lines = 0, accepted = 0, refused = 1;
+    struct found found = {0, run_once(list, OUTPUT)};
+    size_t lines = 0, accepted = 0, refused = 1;
     char line[4096];
     FILE *file = fopen(OUTPUT, "r");
     while (file && fgets(line, sizeof line, file))
-        sscanf(line, "%zu lines: %zu accepted, %zu refused", &lines, &accepted, &refused);
+        sscanf(line, "%zu lines: %zu accepted, %zu refused; %zu figures", &lines, &accepted, &refused, &found.figures);
     if (!file || lines != list->lines || accepted != call_library(list) || accepted + refused != lines)
         fail(WHAT, list->path, "the command and the library tell something else");
     fclose(file);
-    return memory;
+    return found;
 }
 
-void command_rows(const char *path)
+void command_row(const char *path)
 {
     struct list list = read_list(path);
+    struct found found = check_command(&list);
     char text[128];
-    snprintf(text, sizeof text, "%zu lines, up to 6 nodes; at most %zu bytes of memory a line", list.lines, check_command(&list) / list.lines + 1);
+    snprintf(text, sizeof text, "%zu lines, %zu figures of up to 6 nodes; %zu bytes of memory a line", list.lines, found.figures,
+             found.memory / list.lines);
     put_row(&(struct row){WHAT, text, {run_command, &list}, {run_library, &list}, "the library's calls alone", (double)list.lines});
     free((void *)list.bytes);
 }

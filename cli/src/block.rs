@@ -2,7 +2,7 @@
 
 use std::{fmt::Display, hash::BuildHasher};
 
-use lexicon::{CdResult, Record};
+use lexicon::{CdError, CdResult, Record};
 
 /// How records are hashed. Its key is the run's own, so that no list of texts can be made that takes
 /// long.
@@ -26,8 +26,9 @@ pub struct Typed<'a> {
 }
 
 /// The record of a text, and the numbering that gives it.
-pub struct Filed {
-    pub record: Record,
+#[derive(Clone, Copy)]
+pub struct Filed<'a> {
+    pub record: &'a Record,
     pub hash: u64,
     pub numbering: Numbering,
 }
@@ -74,14 +75,16 @@ pub struct Block {
     lines: Vec<Line>,
     /// Texts and notes, one after another.
     typed: Vec<u8>,
+    /// At the place of each line its record, if it is accepted.
+    records: Vec<Record>,
 }
 
 struct Line {
     place: Place,
     /// Where its text begins among all that was typed, where its note begins, and where that ends.
     typed: [usize; 3],
-    /// The library's answer, once it was asked.
-    answer: Option<CdResult<Filed>>,
+    /// The library's answer, once it was asked: a record's hash and its numbering.
+    answer: Option<CdResult<(u64, Numbering)>>,
 }
 
 impl Block {
@@ -107,27 +110,33 @@ impl Block {
 
     /// Has the library answer all lines.
     pub fn file(&mut self, hash: &Hash, infinite: bool) {
-        for line in &mut self.lines {
+        let none = Record::from_trusted_bytes(&[0; Record::LEN]);
+        self.records.resize(self.lines.len(), none);
+        for (line, record) in self.lines.iter_mut().zip(&mut self.records) {
             let [from, to, _] = line.typed;
-            let filed = Record::of_text(&self.typed[from..to], infinite);
-            line.answer = Some(filed.map(|(record, numbering)| Filed {
-                hash: hash.hash_one(record),
-                numbering: Numbering::new(&numbering),
-                record,
-            }));
+            let numbering = record.write(&self.typed[from..to], infinite);
+            let filed = |numbering: Vec<usize>| (hash.hash_one(record), Numbering::new(&numbering));
+            line.answer = Some(numbering.map(filed));
         }
     }
 
     /// What was typed on each line, and what the library answers to it.
-    pub fn answers(&self) -> impl Iterator<Item = (Typed<'_>, &CdResult<Filed>)> {
-        self.lines.iter().filter_map(|line| {
+    pub fn answers(&self) -> impl Iterator<Item = (Typed<'_>, Result<Filed<'_>, &CdError>)> {
+        let lines = self.lines.iter().zip(&self.records);
+        lines.filter_map(|(line, record)| {
             let [from, middle, to] = line.typed;
             let typed = Typed {
                 place: line.place,
                 text: &self.typed[from..middle],
                 note: &self.typed[middle..to],
             };
-            Some((typed, line.answer.as_ref()?))
+            let answer = line.answer.as_ref()?.as_ref();
+            let filed = answer.map(|&(hash, numbering)| Filed {
+                record,
+                hash,
+                numbering,
+            });
+            Some((typed, filed))
         })
     }
 }

@@ -72,7 +72,7 @@ impl Figures {
     }
 
     /// Takes a headword that was filed.
-    pub fn take(&mut self, typed: &Typed, filed: &Filed) {
+    pub fn take(&mut self, typed: &Typed, filed: Filed) {
         let headword = Headword {
             place: typed.place,
             numbering: filed.numbering,
@@ -92,9 +92,7 @@ impl Figures {
     /// and not piece after piece.
     pub fn read_ahead(&self, block: &Block) {
         let candidates = || {
-            let filed = block
-                .answers()
-                .filter_map(|(_, answer)| answer.as_ref().ok());
+            let filed = block.answers().filter_map(|(_, answer)| answer.ok());
             filed.filter_map(|filed| self.slots[self.home(filed.hash)].candidate(filed.hash))
         };
         hint::black_box(candidates().fold(0, |all, figure| all ^ figure));
@@ -104,11 +102,11 @@ impl Figures {
     }
 
     /// The figure that has this record, or the slot for it.
-    fn find(&mut self, filed: &Filed) -> Result<u32, usize> {
+    fn find(&mut self, filed: Filed) -> Result<u32, usize> {
         let mut at = self.home(filed.hash);
         while self.slots[at].number != 0 {
             let candidate = self.slots[at].candidate(filed.hash);
-            if let Some(figure) = candidate.filter(|&figure| *self.record(figure) == filed.record) {
+            if let Some(figure) = candidate.filter(|&figure| self.record(figure) == filed.record) {
                 return Ok(figure);
             }
             at = (at + 1) % self.slots.len();
@@ -217,9 +215,10 @@ mod tests {
             };
             let (record, numbering) = Record::of_text(text, false).unwrap();
             let numbering = Numbering::new(&numbering);
+            let record = &record;
             figures.take(
                 &typed,
-                &Filed {
+                Filed {
                     record,
                     hash,
                     numbering,

@@ -4,7 +4,12 @@ use lexicon::Edge;
 
 /// The name of a node, as the notation's references name it: `a` is the first that was typed.
 pub fn name(node: usize) -> char {
-    char::from(b"abcdefghi"[node])
+    letter(node).into()
+}
+
+/// The same as a byte.
+pub fn letter(node: usize) -> u8 {
+    b"abcdefghi"[node]
 }
 
 /// The names of nodes, with spaces between them.

@@ -1,6 +1,7 @@
 //! What `lexicon check` finds, as text or as JSON.
 
 use std::{
+    hint,
     io::{self, Write},
     path::PathBuf,
 };
@@ -11,7 +12,7 @@ use serde_json::{json, Value};
 use crate::{
     block::{Place, Typed},
     figures::{Figures, Headword},
-    names::names,
+    names::letter,
     refusals::{self, shown},
 };
 
@@ -93,6 +94,11 @@ impl Report {
         )?;
         let place = headwords.clone().map(|(typed, _)| self.width(typed.place));
         let text = headwords.clone().map(|(typed, _)| typed.text.len());
+        // All texts are read once, so that they come into the cache together.
+        let first = headwords
+            .clone()
+            .filter_map(|(typed, _)| typed.text.first());
+        hint::black_box(first.fold(0, |all, byte| all ^ byte));
         let widths = (place.max().unwrap_or(0), text.max().unwrap_or(0));
         for (typed, nodes) in headwords {
             self.row(out, widths, &typed, nodes)?;
@@ -108,11 +114,19 @@ impl Report {
         typed: &Typed,
         nodes: impl Iterator<Item = usize>,
     ) -> io::Result<()> {
-        write!(out, "  {}:{}:", self.file(typed.place), typed.place.line)?;
+        out.extend_from_slice(b"  ");
+        out.extend_from_slice(self.file(typed.place).as_bytes());
+        write!(out, ":{}:", typed.place.line)?;
         out.resize(out.len() + place - self.width(typed.place) + 1, b' ');
         out.extend_from_slice(shown(typed.text).as_bytes());
         out.resize(out.len() + text - typed.text.len() + 1, b' ');
-        write!(out, " {}  {}", names(nodes), shown(typed.note))?;
+        for node in nodes {
+            out.push(b' ');
+            out.push(letter(node));
+        }
+        if !typed.note.is_empty() {
+            write!(out, "  {}", shown(typed.note))?;
+        }
         out.truncate(out.trim_ascii_end().len());
         out.push(b'\n');
         Ok(())

@@ -79,7 +79,7 @@ fn cores() -> usize {
 /// So many lines that starting a thread for them costs next to nothing.
 const SHARE: usize = 8192;
 
-/// Writes what is told of each group of things, in their order, as many at once as there are cores.
+/// Writes what is told of each group of things, in their order, on all cores.
 pub fn tell<T: Sync>(
     groups: &[Vec<T>],
     tell: impl Fn(&[T], &mut Vec<u8>) -> io::Result<()> + Sync,
@@ -90,7 +90,8 @@ pub fn tell<T: Sync>(
         share.iter().try_for_each(|group| tell(group, &mut told))?;
         Ok::<_, io::Error>(told)
     };
-    for shares in shares(groups).chunks(cores()) {
+    // More threads than cores, since shares may be unequal.
+    for shares in shares(groups).chunks(4 * cores()) {
         thread::scope(|scope| {
             let told = &told;
             let start = |&share| scope.spawn(move || told(share));

@@ -2,9 +2,9 @@
 //!
 //! The header asks of a caller that a pointer is aligned and has as many elements behind it as the
 //! length beside it says, an answer four and a numbering nine, and that none overlap. Each function
-//! below lends arrays of its own, of these lengths, beside at most one slice of its caller's, so it
-//! is safe for every argument, and 12 cannot come. The calling convention stands in the
-//! declarations, and the default floating-point environment is what Rust itself assumes.
+//! below lends arrays of these lengths, its own or borrowed by it alone, beside at most one slice of
+//! its caller's, so it is safe for every argument, and 12 cannot come. The calling convention stands
+//! in the declarations, and the default floating-point environment is what Rust itself assumes.
 
 use crate::{CdError, CdResult};
 
@@ -155,13 +155,13 @@ pub fn family_mirrors(letter: u8, size: usize) -> Written<f64, SQUARE> {
     of_family(lexicon_family_mirrors, letter, size)
 }
 
-/// The record, and the numbering that gives it, which has a place for each node.
-#[inline]
-pub fn write_record(text: &[u8], wish: bool) -> CdResult<([u8; RECORD], Vec<usize>)> {
-    let mut out = [0; RECORD];
+/// Writes the record, and gives the numbering that gives it, which has a place for each node. A
+/// refusal leaves what was there.
+pub fn write_record(text: &[u8], wish: bool, out: &mut [u8; RECORD]) -> CdResult<Vec<usize>> {
     let mut numbering = [0; LIMIT];
     let mut answer = [0; ANSWER];
-    // SAFETY: the lengths are the arrays' own, and the header's for the numbering and the answer.
+    // SAFETY: the lengths are the slice's and the arrays' own, and the header's for the numbering and
+    // the answer; `out` is borrowed for this call alone, so the text does not overlap it.
     unsafe {
         lexicon_write_record(
             text.as_ptr(),
@@ -174,7 +174,7 @@ pub fn write_record(text: &[u8], wish: bool) -> CdResult<([u8; RECORD], Vec<usiz
         )
     };
     let [nodes, ..] = told(answer)?;
-    Ok((out, numbering[..nodes].to_vec()))
+    Ok(numbering[..nodes].to_vec())
 }
 
 /// The diagram of a record: tells the nodes and the edges.

@@ -62,10 +62,32 @@ impl Record {
     /// assert_eq!(Record::of_text("x1o", false).unwrap_err().number(), 7);
     /// # Ok::<(), CdError>(())
     /// ```
-    #[inline]
     pub fn of_text(text: impl AsRef<[u8]>, infinite: bool) -> CdResult<(Self, Vec<usize>)> {
-        let (bytes, numbering) = ffi::write_record(text.as_ref(), infinite)?;
-        Ok((Self(bytes), numbering))
+        let mut record = Self([0; RECORD]);
+        let numbering = record.write(text, infinite)?;
+        Ok((record, numbering))
+    }
+
+    /// Makes this the record of a text, and returns the numbering that gives it: as
+    /// [`Record::of_text`], for a program that files so many texts that moving 370 bytes counts. A
+    /// refusal leaves it as it was.
+    ///
+    /// # Errors
+    ///
+    /// As [`Cd::parse`](crate::Cd::parse).
+    ///
+    /// ```
+    /// use lexicon::{Cd, Record};
+    ///
+    /// let (mut record, _) = Record::of_text("x4o3o", false)?;
+    /// assert!(record.write("x1o", false).is_err());
+    /// assert_eq!(record, Cd::parse("x4o3o")?.record());
+    /// assert_eq!(record.write("x3o4o", false)?, [2, 1, 0]);
+    /// assert_eq!(record, Cd::parse("x3o4o")?.record());
+    /// # Ok::<(), lexicon::CdError>(())
+    /// ```
+    pub fn write(&mut self, text: impl AsRef<[u8]>, infinite: bool) -> CdResult<Vec<usize>> {
+        ffi::write_record(text.as_ref(), infinite, &mut self.0)
     }
 
     /// Takes the bytes of a record, in about the time of [`Cd::record`](crate::Cd::record), since they
