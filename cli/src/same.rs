@@ -2,17 +2,15 @@
 
 use std::io::Write;
 
-use clap::ArgMatches;
-use lexicon::Cd;
-
 use crate::{
     names::names,
     output::{Outcome, Output, Status},
     refusals, texts,
 };
+use clap::ArgMatches;
 
 pub fn run(arguments: &ArgMatches, out: &mut Output) -> Outcome {
-    let [a, b] = ["A", "B"].map(|name| read(arguments, name));
+    let [a, b] = ["A", "B"].map(|name| texts::accepted(arguments, name));
     let (Some(a), Some(b)) = (a, b) else {
         return Ok(Status::Failed);
     };
@@ -28,12 +26,4 @@ pub fn run(arguments: &ArgMatches, out: &mut Output) -> Outcome {
         writeln!(out, "{}", row.trim_end())?;
     }
     Ok(Status::Fine)
-}
-
-/// The text of this name, or nothing after its refusal was told.
-fn read(arguments: &ArgMatches, name: &str) -> Option<Cd> {
-    let text = texts::of(arguments, name);
-    let cd = texts::read(text, texts::infinite(arguments));
-    cd.map_err(|refusal| refusals::complain(name, text, &refusal))
-        .ok()
 }

@@ -9,19 +9,13 @@ use crate::{
     geometry::{self, Form},
     names::{decimal, fraction, name},
     output::{Outcome, Output, Status},
-    refusals,
     sketch::sketch,
     texts,
 };
 
 pub fn run(arguments: &ArgMatches, out: &mut Output) -> Outcome {
-    let text = texts::of(arguments, "TEXT");
-    let cd = match texts::read(text, texts::infinite(arguments)) {
-        Ok(cd) => cd,
-        Err(refusal) => {
-            refusals::complain("TEXT", text, &refusal);
-            return Ok(Status::Wrong);
-        }
+    let Some(cd) = texts::accepted(arguments, "TEXT") else {
+        return Ok(Status::Wrong);
     };
     show(&cd, out)?;
     if arguments.get_flag("geometry") {

@@ -5,8 +5,10 @@ use std::ffi::OsStr;
 use clap::ArgMatches;
 use lexicon::{Cd, CdResult};
 
+use crate::refusals::complain;
+
 /// Reads a text, with infinite lengths if they are wished for.
-pub fn read(text: &[u8], infinite: bool) -> CdResult<Cd> {
+fn read(text: &[u8], infinite: bool) -> CdResult<Cd> {
     if infinite {
         Cd::parse_with_infinite(text)
     } else {
@@ -14,9 +16,11 @@ pub fn read(text: &[u8], infinite: bool) -> CdResult<Cd> {
     }
 }
 
-/// The bytes of a text that the command line must have.
-pub fn of<'a>(arguments: &'a ArgMatches, name: &str) -> &'a [u8] {
-    all_of(arguments, name).next().unwrap_or_default()
+/// The text of this name, which the command line must have; or nothing after its refusal was told.
+pub fn accepted(arguments: &ArgMatches, name: &str) -> Option<Cd> {
+    let text = all_of(arguments, name).next().unwrap_or_default();
+    let cd = read(text, infinite(arguments));
+    cd.map_err(|refusal| complain(name, text, &refusal)).ok()
 }
 
 /// The bytes of all texts of this name.

@@ -196,27 +196,14 @@ impl CdError {
     #[must_use]
     pub fn fields(&self) -> Vec<usize> {
         match *self {
-            Self::TooLong { pos }
-            | Self::NotAscii { pos }
-            | Self::MismatchedParenthesis { pos }
-            | Self::UnexpectedEnding { pos }
-            | Self::ParseError { pos }
-            | Self::InvalidSymbol { pos }
-            | Self::OutOfRange { pos }
-            | Self::TooManyNodes { pos }
-            | Self::InfiniteLength { pos } => vec![pos],
             Self::InvalidEdge { num, den, pos } => vec![num as usize, den as usize, pos],
             Self::RepeatEdge { a, b } => vec![a, b],
-            Self::MissingNode { edge } => vec![edge],
-            Self::Crowded { column } => vec![column],
-            Self::Infinite { node } => vec![node],
-            Self::ShelfPlace { place } | Self::OnShelf { place } => vec![place],
-            Self::ShortBuffer
-            | Self::RecordLength
-            | Self::NoDiagram
-            | Self::NoFamily
-            | Self::ShelfLength
-            | Self::NotSmallest => vec![],
+            Self::MissingNode { edge: field }
+            | Self::Crowded { column: field }
+            | Self::Infinite { node: field }
+            | Self::ShelfPlace { place: field }
+            | Self::OnShelf { place: field } => vec![field],
+            _ => self.position().into_iter().collect(),
         }
     }
 

@@ -31,18 +31,13 @@ use lexicon::Cd;
 
 use crate::{
     output::{Failure, Outcome, Output, Status},
-    refusals, texts,
+    texts,
 };
 
 /// Draws the text's diagram into the file.
 pub fn run(arguments: &ArgMatches, out: &mut Output) -> Outcome {
-    let text = texts::of(arguments, "TEXT");
-    let cd = match texts::read(text, texts::infinite(arguments)) {
-        Ok(cd) => cd,
-        Err(refusal) => {
-            refusals::complain("TEXT", text, &refusal);
-            return Ok(Status::Wrong);
-        }
+    let Some(cd) = texts::accepted(arguments, "TEXT") else {
+        return Ok(Status::Wrong);
     };
     let svg = drawn(&cd);
     match arguments.get_one::<PathBuf>("output") {
