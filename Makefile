@@ -13,7 +13,7 @@ CC = gcc
 CFLAGS = -std=c11 -Wall -Wextra -ffp-contract=off
 LIB = target/staticlib
 
-.PHONY: test lib libs callers cli command programs compare beside models oracle claims run list bench
+.PHONY: test lib libs callers cli command command-tests command-texts programs compare beside models oracle claims run list bench
 
 # The seed of the texts, pairs and shelf files by chance, and how many.
 SEED := $(shell date +%Y%m%d)
@@ -53,8 +53,12 @@ cli: libs
 run: cli
 	@target/cli/release/lexicon check --notes cli/sample.txt || [ $$? = 1 ]
 
-command: cli
+command: command-tests command-texts
+
+command-tests: cli
 	@cd cli && unset MAKEFLAGS LEXICON_LIB && cargo clippy --offline --quiet --release --all-targets -- -D warnings && cargo test --offline --quiet --release
+
+command-texts: cli
 	@$(CC) $(CFLAGS) -D_POSIX_C_SOURCE=200809L -O2 -Iinclude -o target/filed oracle/filed.c $(LIB)/liblexicon_c.a
 	@python3 oracle/command.py
 

@@ -365,7 +365,7 @@ fn known_planar_figures_have_no_crossings() {
 #[test]
 fn trees_and_single_cycles_have_no_crossings() {
     let mut dice = Dice(1);
-    for round in 0..400 {
+    for round in 0..200 {
         let count = 4 + round % 6;
         // The nodes before the first one that grows out of others make a cycle, if there are three.
         let cycle = if round % 2 == 0 {
@@ -392,7 +392,7 @@ fn trees_and_single_cycles_have_no_crossings() {
 #[test]
 fn planar_graphs_have_no_crossings() {
     let mut dice = Dice(2);
-    for round in 0..300 {
+    for round in 0..150 {
         let count = 4 + round % 6;
         // A node in a triangle, again and again; then some edges less.
         let mut triangles = vec![[0, 1, 2], [0, 1, 2]];

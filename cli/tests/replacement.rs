@@ -388,7 +388,7 @@ fn eight_processes_lose_nothing() {
             for n in 0..50 {
                 let text = format!("o{}x3x", 3 + 50 * process + n);
                 let run = folder.shelf(["add", NAME, &text]);
-                assert_eq!((run.status, &*run.err), (Some(0), ""), "{run:?}");
+                assert_eq!(run.status, Some(0), "{run:?}"); // which may say that it waits
             }
         }
     };
