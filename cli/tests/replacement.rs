@@ -42,10 +42,16 @@ fn new() -> Vec<u8> {
     )
 }
 
-/// A folder with the old shelf, and the calls of a run that adds to it.
-fn articles() -> (Folder, Vec<String>) {
+/// A folder that has the old shelf.
+fn with_old() -> Folder {
     let folder = Folder::new();
     folder.write(NAME, old());
+    folder
+}
+
+/// A folder with the old shelf, and the calls of a run that adds to it.
+fn articles() -> (Folder, Vec<String>) {
+    let folder = with_old();
     let calls = calls(&mut folder.command(ADD));
     assert_eq!(folder.read(NAME), new());
     (folder, calls)
@@ -280,8 +286,7 @@ fn out_of_space_on_a_small_file_system() {
 
 #[test]
 fn out_of_a_file_size_limit() {
-    let folder = Folder::new();
-    folder.write(NAME, old());
+    let folder = with_old();
     folder.write("list", texts().join("\n"));
     let limited = |arguments: &str| {
         let script = format!("ulimit -f 40; \"$0\" shelf {arguments}; exit $?");
@@ -370,8 +375,7 @@ fn removed_meanwhile() {
 
 #[test]
 fn replaced_again_and_again() {
-    let folder = Folder::new();
-    folder.write(NAME, old());
+    let folder = with_old();
     let other = format!("cp {NAME} copy && mv copy {NAME}");
     let run = before_each(&mut folder.command(ADD), "fsync", &other);
     run.fails("it is replaced again and again by others; nothing was done");
@@ -380,8 +384,7 @@ fn replaced_again_and_again() {
 
 #[test]
 fn eight_processes_lose_nothing() {
-    let folder = Folder::new();
-    folder.write(NAME, old());
+    let folder = with_old();
     let adding = |process: usize| {
         let folder = &folder;
         move || {
@@ -402,8 +405,7 @@ fn eight_processes_lose_nothing() {
 /// Runs that are killed while others add: whoever succeeded is there, and nothing but what was added.
 #[test]
 fn killed_among_others() {
-    let folder = Folder::new();
-    folder.write(NAME, old());
+    let folder = with_old();
     let adding = |process: usize| {
         let folder = &folder;
         move || {
@@ -566,8 +568,7 @@ fn waits_for_a_lock_and_says_so() {
 /// A run that has locked its temporary file lives: its file is waited for, and not removed.
 #[test]
 fn waits_for_a_temporary_file_in_use() {
-    let folder = Folder::new();
-    folder.write(NAME, old());
+    let folder = with_old();
     let temporary = folder.write(".articles.shelf.lexicon-new", "half of a shelf");
     let held = File::open(&temporary).unwrap();
     held.lock().unwrap();
@@ -590,8 +591,7 @@ fn waits_for_a_temporary_file_in_use() {
 /// A link of the temporary file's name is not followed.
 #[test]
 fn a_link_in_the_way() {
-    let folder = Folder::new();
-    folder.write(NAME, old());
+    let folder = with_old();
     folder.write("precious", "1");
     symlink("precious", folder.path(".articles.shelf.lexicon-new")).unwrap();
     folder
