@@ -15,10 +15,11 @@ use lib.ListN.{length, getD, take, set}
 use lib.Seq.{take-all, take-suc-set}
 use Rattle.float.specs.Numbers.{_-ᶠ_, _*ᶠ_, _/ᶠ_}
 use Rattle.float.specs.Pick.{pick}
-use Rattle.cox.specs.Squares.{Square, flat}
+use Rattle.cox.specs.Squares.{Square, two, flat}
 use Rattle.cox.proofs.Flats.{flat-at, flat-set, flat-same}
 use Rattle.generator.specs.Generator.{solved, solve}
 use Rattle.generator.specs.Shown.{lost}
+use Rattle.generator.specs.TrueDistances.{rest, restᶠ, placed, place, placeᶠ}
 
 -- an entry of a row, read from its array
 pub row-read : {A : Type 0} (N : ℕ) (f : ℕ → A) (l : List A) (d : A) → l ≡ flat N f → (i : ℕ) → i < N → getD l i d ≡ f i
@@ -105,3 +106,24 @@ solve-last f (suc i) c h = rw sub-one
 pub solve-done : (f : Square) (i : ℕ) (c : ℕ → Float) → i ≡ 0 → c ≡ solve f i c
 unfolding solve
 solve-done f i c e = rw e
+
+-- ---- over walls
+
+pub rest-none : (f : Square) (b : ℕ → Float) (i : ℕ) → b i /ᶠ two ≡ restᶠ f b i 0
+unfolding rest
+rest-none f b i = refl
+
+pub rest-more : (f : Square) (b : ℕ → Float) (i k : ℕ) (s x y : Float) → s ≡ restᶠ f b i k → x ≡ b k → y ≡ f i k → s -ᶠ x *ᶠ y ≡ restᶠ f b i (k + 1)
+unfolding rest
+rest-more f b i k s x y e p q = rw (add-one, e, p, q)
+
+pub place-none : (f : Square) (c : ℕ → Float) → c ≡ placeᶠ f 0 c
+unfolding place
+place-none f c = refl
+
+-- the store of coordinate i
+pub place-more : (f : Square) (i : ℕ) (c : ℕ → Float) (s d : Float) (N : ℕ) (out : List Float) → i < N → out ≡ flat N (placeᶠ f i c)
+    → s ≡ restᶠ f (placeᶠ f i c) i i → d ≡ f i i → set out i (s /ᶠ d) ≡ flat N (placeᶠ f (i + 1) c)
+unfolding place placed
+place-more f i c s d N out h w e q =
+    rw (add-one, w, e, q) (flat-set N (placeᶠ f i c) _ i _ h (rw (eq-eqb i i refl)) (λ r l n. rw (ne-eqb r i n)))

@@ -1,4 +1,4 @@
-// `Cd::generator`: the point that the mirrors and the nodes' values give, as the Rust computes it.
+// `Cd::generator`: the point that the mirrors and the nodes' values give, as the Rust computes it; and over walls the point at half a node's value from its wall.
 use cd::Cd;
 use cd::LIMIT;
 use cd::Node;
@@ -12,6 +12,7 @@ ghost use Rattle.cd.specs.Diagrams.{Stored, limit, cdOf};
 ghost use Rattle.cd.specs.declared.Node.{Node as ANode};
 ghost use Rattle.generator.specs.Generator.{value as the-value, values as the-values, solve as the-solve, isInfinite, firstInfinite};
 ghost use Rattle.generator.specs.Shown.{generatorOf, lost};
+ghost use Rattle.generator.specs.TrueDistances.{restᶠ, placeᶠ, coordinates as the-coordinates};
 ghost use Rattle.cox.specs.Squares.{Square, flat, flatSquare, dot as the-dot};
 
 // It carries its coordinates, the first `count`, and its circumradius.
@@ -99,6 +100,46 @@ fn solve(m: &[f64; SQUARE], values: [f64; LIMIT], n: usize) -> [f64; LIMIT]
     b
 }
 
+// Half the value of node i, less each coordinate before i times its row of column i.
+fn rest(m: &[f64; SQUARE], b: [f64; LIMIT], i: usize) -> f64
+    requires { ⌜ i < limit ⌝ }
+    ensures { λ r. ⌜ ((f : Square) (c : ℕ → Float) → now (m .entry) ≡ flatSquare limit f → b ≡ flat limit c → r ≡ restᶠ f c i i) ⌝ }
+{
+    let mut rest = b[i] / 2.0;
+    let mut k = 0;
+    while k < i {
+        rest = rest - b[k] * m[LIMIT * i + k];
+        k += 1;
+    }
+    rest
+}
+
+// The triangular system of the walls, from the first row to the last.
+fn place(m: &[f64; SQUARE], values: [f64; LIMIT], n: usize) -> [f64; LIMIT]
+    requires { ⌜ n ≤ limit ⌝ }
+    ensures { λ r. ⌜ ((f : Square) (c : ℕ → Float) → now (m .entry) ≡ flatSquare limit f → values ≡ flat limit c → r ≡ flat limit (placeᶠ f n c)) ⌝ }
+{
+    let mut b = values;
+    let mut i = 0;
+    while i < n {
+        b[i] = rest(m, b, i) / m[LIMIT * i + i];
+        i += 1;
+    }
+    b
+}
+
+// The coordinates over the Rust's mirrors, or over walls.
+fn coordinates(walls: bool, m: &[f64; SQUARE], values: [f64; LIMIT], n: usize) -> [f64; LIMIT]
+    requires { ⌜ n ≤ limit ⌝ }
+    ensures { λ r. ⌜ ((f : Square) (c : ℕ → Float) → now (m .entry) ≡ flatSquare limit f → values ≡ flat limit c → r ≡ flat limit (the-coordinates walls f n c)) ⌝ }
+{
+    if walls {
+        place(m, values, n)
+    } else {
+        solve(m, values, n)
+    }
+}
+
 // The sum of the squares of the first n, by rising index from 0.0.
 fn squares(b: [f64; LIMIT], n: usize) -> f64
     requires { ⌜ n ≤ limit ⌝ }
@@ -113,11 +154,11 @@ fn squares(b: [f64; LIMIT], n: usize) -> f64
     s
 }
 
-pub fn of(m: &[f64; SQUARE], values: [f64; LIMIT], n: usize) -> Generator
+pub fn of(walls: bool, m: &[f64; SQUARE], values: [f64; LIMIT], n: usize) -> Generator
     requires { ⌜ n ≤ limit ⌝ }
-    ensures { λ r. ⌜ ((f : Square) (c : ℕ → Float) → now (m .entry) ≡ flatSquare limit f → values ≡ flat limit c → r ≡ generatorOf n (the-solve f n c)) ⌝ }
+    ensures { λ r. ⌜ ((f : Square) (c : ℕ → Float) → now (m .entry) ≡ flatSquare limit f → values ≡ flat limit c → r ≡ generatorOf n (the-coordinates walls f n c)) ⌝ }
 {
-    let b = solve(m, values, n);
+    let b = coordinates(walls, m, values, n);
     Generator {
         at: b,
         count: n,

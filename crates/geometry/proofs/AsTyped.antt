@@ -1,6 +1,6 @@
 -- Document 02, K2: "Matrix bits don't change, since both quotients round the same fraction". The edges as typed have the matrix of the edges kept, entry by
 -- entry, and so what the calls show of a text is what its edges as typed would show. Numbers of 32 bits are doubles exactly. Assumes nothing.
-use mathlib.Core.Bool.{Bool}
+use mathlib.Core.Bool.{Bool, false}
 use mathlib.Core.List.{List, [], _∷_, map}
 use mathlib.Core.Path.{_≡_, refl, ap}
 use Prim.Native.Nat.{ℕ, _^_, _<_}
@@ -22,8 +22,8 @@ use Rattle.lexicon.specs.All.{All, nil, cons}
 use Rattle.lexicon.proofs.Sound.{SoundEdge, sound-edges}
 use Rattle.normals.specs.Mirrors.{mirrors}
 use Rattle.parse.specs.Reading.{Reading, Accepted, Refused, keptEdge, kept, typed, read}
-use Rattle.geometry.specs.Points.{shownGenerator, generatorOfText, shownReflections, reflectionsOfText}
-use Rattle.geometry.specs.Squares.{square, shownMirrors, matrixOf, mirrorsOf}
+use Rattle.geometry.specs.Points.{shownGenerator, generatorOver, shownReflections, reflectionsOfText}
+use Rattle.geometry.specs.Squares.{square, shownMirrors, matrixOf, normalsOf}
 
 -- ---- the entries
 
@@ -62,14 +62,14 @@ pub matrix-as-typed : (wish : Bool) (s : List ℕ) → matrixOf (read wish s) �
 unfolding matrixOf
 matrix-as-typed wish s = shown-as-typed matrixOf (λ ns es ts h. ap (square (length ns)) h) wish s
 
-pub mirrors-as-typed : (wish : Bool) (s : List ℕ) → mirrorsOf (read wish s) ≡ mirrorsOf (typed wish s)
-unfolding mirrorsOf
-mirrors-as-typed wish s = shown-as-typed mirrorsOf (λ ns es ts h. ap (λ (m : squares.Square). shownMirrors (length ns) (mirrors m (length ns))) h) wish s
+pub normals-as-typed : (walls wish : Bool) (s : List ℕ) → normalsOf walls (read wish s) ≡ normalsOf walls (typed wish s)
+unfolding normalsOf
+normals-as-typed walls wish s = shown-as-typed (normalsOf walls) (λ ns es ts h. ap (λ (m : squares.Square). shownMirrors (length ns) (mirrors walls m (length ns))) h) wish s
 
-pub generator-as-typed : (wish : Bool) (s : List ℕ) → generatorOfText (read wish s) ≡ generatorOfText (typed wish s)
-unfolding generatorOfText
-generator-as-typed wish s = shown-as-typed generatorOfText (λ ns es ts h. ap (λ (m : squares.Square). shownGenerator ns (mirrors m (length ns))) h) wish s
+pub generator-as-typed : (walls wish : Bool) (s : List ℕ) → generatorOver walls (read wish s) ≡ generatorOver walls (typed wish s)
+unfolding generatorOver
+generator-as-typed walls wish s = shown-as-typed (generatorOver walls) (λ ns es ts h. ap (λ (m : squares.Square). shownGenerator walls ns (mirrors walls m (length ns))) h) wish s
 
 pub reflections-as-typed : (wish : Bool) (s : List ℕ) → reflectionsOfText (read wish s) ≡ reflectionsOfText (typed wish s)
 unfolding reflectionsOfText
-reflections-as-typed wish s = shown-as-typed reflectionsOfText (λ ns es ts h. ap (λ (m : squares.Square). shownReflections (length ns) (mirrors m (length ns))) h) wish s
+reflections-as-typed wish s = shown-as-typed reflectionsOfText (λ ns es ts h. ap (λ (m : squares.Square). shownReflections (length ns) (mirrors false m (length ns))) h) wish s

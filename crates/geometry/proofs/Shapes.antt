@@ -1,6 +1,6 @@
 -- From what the code holds of a matrix and of mirrors to what the geometers' calls promise: case by case of the definitions. Assumes nothing.
 use Prim.Native.Nat.{ℕ, _+_, _*_, _≤_, _<_}
-use mathlib.Core.Bool.{true, false, and-eq-true-iff}
+use mathlib.Core.Bool.{Bool, true, false, and-eq-true-iff}
 use mathlib.Core.List.{List}
 use mathlib.Core.Path.{_≡_, refl, sym, ap, _∙_}
 use native.Mathlib.Omega.{arith}
@@ -19,8 +19,9 @@ use Rattle.cox.specs.Squares.{zeros, flatSquare}
 use Rattle.cox.specs.Squares as squares
 use Rattle.cox.specs.declared.Cox.{Cox}
 use Rattle.cox.proofs.Flats.{square-at}
-use Rattle.generator.specs.Generator.{values, solve, firstInfinite}
+use Rattle.generator.specs.Generator.{values, firstInfinite}
 use Rattle.generator.specs.Shown.{generatorOf}
+use Rattle.generator.specs.TrueDistances.{coordinates}
 use Rattle.generator.specs.declared.Generator.{Generator}
 use Rattle.normals.specs.Mirrors.{Mirrors, Columns, mirrors}
 use Rattle.normals.specs.Mirrors as normals
@@ -33,7 +34,7 @@ use Rattle.parse.specs.declared.Answer.{Answer}
 use Rattle.parse.specs.declared.Answer.the-variants as said
 use Rattle.reflections.specs.Shown.{reflectionsOf}
 use Rattle.reflections.specs.declared.Reflections.{Reflections}
-use Rattle.geometry.specs.Points.{refusedGenerator, solvedGenerator, shownGenerator, generatorOfText, refusedReflections, shownReflections, reflectionsOfText}
+use Rattle.geometry.specs.Points.{refusedGenerator, solvedGenerator, shownGenerator, generatorOver, refusedReflections, shownReflections, reflectionsOfText}
 use Rattle.geometry.specs.Squares as shown
 use Rattle.geometry.specs.declared.Generated.{Generated}
 use Rattle.geometry.specs.declared.Reflected.{Reflected}
@@ -87,17 +88,17 @@ module _ (x : Reading) (ns : List Node) (es : List Stored) (is : x ≡ Accepted 
   unfolding shown.matrixOf
   matrix-shown a h = rw (is, h, matrix-at ns es cox held, matrix-count ns es cox held)
 
-  pub mirrors-shown : (r : Square) → r ≡ shown.shownMirrors (cox .count) (mirrors (matrix es) (cox .count)) → r ≡ shown.mirrorsOf x
-  unfolding shown.mirrorsOf
-  mirrors-shown r h = rw (is, ← (matrix-count ns es cox held)) h
+  pub normals-shown : (walls : Bool) (r : Square) → r ≡ shown.shownMirrors (cox .count) (mirrors walls (matrix es) (cox .count)) → r ≡ shown.normalsOf walls x
+  unfolding shown.normalsOf
+  normals-shown walls r h = rw (is, ← (matrix-count ns es cox held)) h
 
 pub square-refused : (x : Reading) (e : CdError) (r : Square) → x ≡ Refused e → r ≡ shown.refusedSquare e → r ≡ shown.matrixOf x
 unfolding shown.matrixOf
 square-refused x e r is h = rw is h
 
-pub mirrors-refused : (x : Reading) (e : CdError) (r : Square) → x ≡ Refused e → r ≡ shown.refusedSquare e → r ≡ shown.mirrorsOf x
-unfolding shown.mirrorsOf
-mirrors-refused x e r is h = rw is h
+pub normals-refused : (walls : Bool) (x : Reading) (e : CdError) (r : Square) → x ≡ Refused e → r ≡ shown.refusedSquare e → r ≡ shown.normalsOf walls x
+unfolding shown.normalsOf
+normals-refused walls x e r is h = rw is h
 
 -- ---- families
 
@@ -118,24 +119,24 @@ module _ (c n : ℕ) where
   unfolding shown.familyMatrixOf
   family-refused r t h = rw t h
 
-  pub family-mirrors-shown : (r : Square) → isFamily limit c n ≡ true → r ≡ shown.shownMirrors n (mirrors (familyMatrix c) n) → r ≡ shown.familyMirrorsOf c n
-  unfolding shown.familyMirrorsOf
-  family-mirrors-shown r t h = rw t h
+  pub family-normals-shown : (walls : Bool) (r : Square) → isFamily limit c n ≡ true → r ≡ shown.shownMirrors n (mirrors walls (familyMatrix c) n) → r ≡ shown.familyNormalsOf walls c n
+  unfolding shown.familyNormalsOf
+  family-normals-shown walls r t h = rw t h
 
-  -- THE MIRRORS OF A FAMILY ARE THOSE OF THE MATRIX THAT `family_matrix` ANSWERS
-  pub family-mirrors-of-matrix : (m : squares.Square) → isFamily limit c n ≡ true → shown.familyMatrixOf c n ≡ shown.square n m
-      → shown.familyMirrorsOf c n ≡ shown.shownMirrors n (mirrors m n)
-  unfolding shown.familyMatrixOf shown.familyMirrorsOf
-  family-mirrors-of-matrix m t h =
+  -- THE MIRRORS AND THE WALLS OF A FAMILY ARE THOSE OF THE MATRIX THAT `family_matrix` ANSWERS
+  pub family-normals-of-matrix : (walls : Bool) (m : squares.Square) → isFamily limit c n ≡ true → shown.familyMatrixOf c n ≡ shown.square n m
+      → shown.familyNormalsOf walls c n ≡ shown.shownMirrors n (mirrors walls m n)
+  unfolding shown.familyMatrixOf shown.familyNormalsOf
+  family-normals-of-matrix walls m t h =
       let same : flatSquare limit (familyMatrix c) ≡ flatSquare limit m = ap (λ (y : Square). y .at) (rw t at h) in
       let entry : (i j : ℕ) → j < i → i < n → familyMatrix c i j ≡ m i j = λ i j l k.
       let inside : i < limit = omega (arith, family-few t) in
       sym (square-at limit (familyMatrix c) nan i j inside (omega arith)) ∙ ap (λ z. getD z (limit * i + j) nan) same ∙ square-at limit m nan i j inside (omega arith) in
-      rw t (ap (shown.shownMirrors n) (mirrors-local (familyMatrix c) m n entry))
+      rw t (ap (shown.shownMirrors n) (mirrors-local walls (familyMatrix c) m n entry))
 
-  pub family-mirrors-refused : (r : Square) → isFamily limit c n ≡ false → r ≡ shown.refusedSquare NoFamily → r ≡ shown.familyMirrorsOf c n
-  unfolding shown.familyMirrorsOf
-  family-mirrors-refused r t h = rw t h
+  pub family-normals-refused : (walls : Bool) (r : Square) → isFamily limit c n ≡ false → r ≡ shown.refusedSquare NoFamily → r ≡ shown.familyNormalsOf walls c n
+  unfolding shown.familyNormalsOf
+  family-normals-refused walls r t h = rw t h
 
 -- ---- the generator
 
@@ -143,39 +144,39 @@ pub generator-none : (e : CdError) (g : Generator) → g ≡ generatorOf 0 (λ i
 unfolding refusedGenerator
 generator-none e g h = rw h
 
-module _ (ns : List Node) (m : squares.Square) where
-  pub generator-infinite : (k : ℕ) (r : Generated) → k ≡ firstInfinite ns 0 → k < length ns → r ≡ refusedGenerator (Infinite k) → r ≡ solvedGenerator ns m
+module _ (walls : Bool) (ns : List Node) (m : squares.Square) where
+  pub generator-infinite : (k : ℕ) (r : Generated) → k ≡ firstInfinite ns 0 → k < length ns → r ≡ refusedGenerator (Infinite k) → r ≡ solvedGenerator walls ns m
   unfolding solvedGenerator
   generator-infinite k r e l h = rw (← e, lt-ltb k (length ns) l) h
 
-  pub generator-solved : (k : ℕ) (g : Generator) → k ≡ firstInfinite ns 0 → length ns ≤ k → g ≡ generatorOf (length ns) (solve m (length ns) (values ns))
-      → _≡_ {A = Generated} (record { answer = said.Accepted; generator = g }) (solvedGenerator ns m)
+  pub generator-solved : (k : ℕ) (g : Generator) → k ≡ firstInfinite ns 0 → length ns ≤ k → g ≡ generatorOf (length ns) (coordinates walls m (length ns) (values ns))
+      → _≡_ {A = Generated} (record { answer = said.Accepted; generator = g }) (solvedGenerator walls ns m)
   unfolding solvedGenerator
   generator-solved k g e l h = rw (← e, le-ltb k (length ns) l, h)
 
 module _ (x : Reading) (ns : List Node) (es : List Stored) (is : x ≡ Accepted ns es) (n : ℕ) (count : n ≡ length ns) where
-  pub generator-shown : (m : squares.Square) (r : Generated) → mirrors (matrix es) n ≡ Columns m → r ≡ solvedGenerator ns m → r ≡ generatorOfText x
-  unfolding generatorOfText shownGenerator
-  generator-shown m r e h = rw (is, ← count, e) h
+  pub generator-shown : (walls : Bool) (m : squares.Square) (r : Generated) → mirrors walls (matrix es) n ≡ Columns m → r ≡ solvedGenerator walls ns m → r ≡ generatorOver walls x
+  unfolding generatorOver shownGenerator
+  generator-shown walls m r e h = rw (is, ← count, e) h
 
-  pub generator-crowded : (i : ℕ) (r : Generated) → mirrors (matrix es) n ≡ normals.Refused i → r ≡ refusedGenerator (Crowded i) → r ≡ generatorOfText x
-  unfolding generatorOfText shownGenerator
-  generator-crowded i r e h = rw (is, ← count, e) h
+  pub generator-crowded : (walls : Bool) (i : ℕ) (r : Generated) → mirrors walls (matrix es) n ≡ normals.Refused i → r ≡ refusedGenerator (Crowded i) → r ≡ generatorOver walls x
+  unfolding generatorOver shownGenerator
+  generator-crowded walls i r e h = rw (is, ← count, e) h
 
   -- ---- the reflections
 
-  pub reflections-shown : (m : squares.Square) (a : Answer) (r : Reflections) → mirrors (matrix es) n ≡ Columns m → a ≡ said.Accepted → r ≡ reflectionsOf n m
+  pub reflections-shown : (m : squares.Square) (a : Answer) (r : Reflections) → mirrors false (matrix es) n ≡ Columns m → a ≡ said.Accepted → r ≡ reflectionsOf n m
       → _≡_ {A = Reflected} (record { answer = a; reflections = r }) (reflectionsOfText x)
   unfolding reflectionsOfText shownReflections
   reflections-shown m a r e h k = rw (is, ← count, e, h, k)
 
-  pub reflections-crowded : (i : ℕ) (r : Reflected) → mirrors (matrix es) n ≡ normals.Refused i → r ≡ refusedReflections (Crowded i) → r ≡ reflectionsOfText x
+  pub reflections-crowded : (i : ℕ) (r : Reflected) → mirrors false (matrix es) n ≡ normals.Refused i → r ≡ refusedReflections (Crowded i) → r ≡ reflectionsOfText x
   unfolding reflectionsOfText shownReflections
   reflections-crowded i r e h = rw (is, ← count, e) h
 
-pub generator-refused : (x : Reading) (e : CdError) (r : Generated) → x ≡ Refused e → r ≡ refusedGenerator e → r ≡ generatorOfText x
-unfolding generatorOfText
-generator-refused x e r is h = rw is h
+pub generator-refused : (walls : Bool) (x : Reading) (e : CdError) (r : Generated) → x ≡ Refused e → r ≡ refusedGenerator e → r ≡ generatorOver walls x
+unfolding generatorOver
+generator-refused walls x e r is h = rw is h
 
 pub reflections-none : (e : CdError) (g : Reflections) → g ≡ reflectionsOf 0 zeros → _≡_ {A = Reflected} (record { answer = said.Refused e; reflections = g }) (refusedReflections e)
 unfolding refusedReflections

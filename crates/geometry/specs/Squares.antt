@@ -1,5 +1,7 @@
--- The promises of `matrix`, `mirrors`, `family_matrix` and `family_mirrors`. Document 01, "What each operation refuses": "Mirrors: the text's or, for a family, 17,
--- then 15 with column i." and "Families: 17, letter or size outside the list." A refusal "gives .. no value": it carries zeros and the count 0.
+-- The promises of `matrix`, `mirrors`, `walls`, `family_matrix`, `family_mirrors` and `family_walls`. Document 01, "What each operation refuses": "Mirrors: the text's or,
+-- for a family, 17, then 15 with column i." and "Families: 17, letter or size outside the list." Document 02, K7, of walls: "the refusals 15 and 16 follow as in
+-- 01". A refusal "gives .. no value": it carries zeros and the count 0.
+use mathlib.Core.Bool.{Bool, true, false}
 use Prim.Native.Nat.{ℕ}
 use lib.ListN.{length}
 use Rattle.float.specs.Pick.{pick}
@@ -36,10 +38,17 @@ unfolding square refusedSquare matrix
 matrixOf (Accepted ns es) = square (length ns) (matrix es)
 matrixOf (Refused e) = refusedSquare e
 
-unfoldable pub mirrorsOf : Reading → Square
+-- the Rust's mirrors, or walls
+unfoldable pub normalsOf : Bool → Reading → Square
 unfolding shownMirrors refusedSquare mirrors matrix
-mirrorsOf (Accepted ns es) = shownMirrors (length ns) (mirrors (matrix es) (length ns))
-mirrorsOf (Refused e) = refusedSquare e
+normalsOf walls (Accepted ns es) = shownMirrors (length ns) (mirrors walls (matrix es) (length ns))
+normalsOf walls (Refused e) = refusedSquare e
+
+abbrev pub mirrorsOf : Reading → Square
+mirrorsOf = normalsOf false
+
+abbrev pub wallsOf : Reading → Square
+wallsOf = normalsOf true
 
 -- ---- of a family
 
@@ -47,6 +56,14 @@ unfoldable pub familyMatrixOf : ℕ → ℕ → Square
 unfolding square refusedSquare familyMatrix isFamily
 familyMatrixOf c n = pick (isFamily limit c n) (square n (familyMatrix c)) (refusedSquare NoFamily)
 
-unfoldable pub familyMirrorsOf : ℕ → ℕ → Square
+unfoldable pub familyNormalsOf : Bool → ℕ → ℕ → Square
 unfolding shownMirrors refusedSquare mirrors familyMatrix isFamily
-familyMirrorsOf c n = let r = shownMirrors n (mirrors (familyMatrix c) n) in pick (isFamily limit c n) r (refusedSquare NoFamily)
+familyNormalsOf walls c n =
+    let r = shownMirrors n (mirrors walls (familyMatrix c) n) in
+    pick (isFamily limit c n) r (refusedSquare NoFamily)
+
+abbrev pub familyMirrorsOf : ℕ → ℕ → Square
+familyMirrorsOf = familyNormalsOf false
+
+abbrev pub familyWallsOf : ℕ → ℕ → Square
+familyWallsOf = familyNormalsOf true

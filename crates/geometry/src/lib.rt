@@ -1,4 +1,5 @@
-// The geometers' calls: matrices, mirrors, the generator, the reflections. Each has no `requires`.
+// The geometers' calls: matrices, mirrors and walls, the two generators, the reflections. Each has no `requires`. `walls` of what is not public tells Coxeter's
+// walls from the Rust's mirrors.
 use cd::Cd;
 use cd::CdError;
 use cd::SQUARE;
@@ -12,12 +13,12 @@ ghost use Prim.Native.Nat.{_≤_};
 ghost use Rattle.cd.specs.Diagrams.{Stored, limit, cdOf};
 ghost use Rattle.cd.specs.declared.Node.{Node};
 ghost use Rattle.cox.specs.Squares as squares;
-ghost use Rattle.geometry.specs.Points.{refusedGenerator, solvedGenerator, refusedReflections, generatorOfText, reflectionsOfText};
-ghost use Rattle.geometry.specs.Squares.{refusedSquare, shownMirrors, matrixOf, mirrorsOf, familyMatrixOf, familyMirrorsOf};
+ghost use Rattle.geometry.specs.Points.{refusedGenerator, solvedGenerator, refusedReflections, generatorOver, generatorOfText, wallGeneratorOfText, reflectionsOfText};
+ghost use Rattle.geometry.specs.Squares.{refusedSquare, shownMirrors, matrixOf, normalsOf, mirrorsOf, wallsOf, familyMatrixOf, familyNormalsOf, familyMirrorsOf, familyWallsOf};
 ghost use Rattle.normals.specs.Mirrors as definition;
 ghost use Rattle.parse.specs.Reading.{read};
 
-// A matrix, or mirrors as columns: row r of column c at 9 × c + r, for the first `count` of each; or what refuses them.
+// A matrix, or mirrors or walls as columns: row r of column c at 9 × c + r, for the first `count` of each; or what refuses them.
 pub struct Square {
     pub answer: Answer,
     pub at: [f64; SQUARE],
@@ -45,12 +46,12 @@ fn refused_square(e: CdError) -> Square
     }
 }
 
-// The mirrors of a matrix.
-fn mirrored(matrix: [f64; SQUARE], n: usize) -> Square
+// The mirrors of a matrix, or its walls.
+fn mirrored(walls: bool, matrix: [f64; SQUARE], n: usize) -> Square
     requires { ⌜ n ≤ limit ⌝ }
-    ensures { λ r. ⌜ ((e : squares.Square) → matrix ≡ squares.flatSquare limit e → r ≡ shownMirrors n (definition.mirrors e n)) ⌝ }
+    ensures { λ r. ⌜ ((e : squares.Square) → matrix ≡ squares.flatSquare limit e → r ≡ shownMirrors n (definition.mirrors walls e n)) ⌝ }
 {
-    let m = normals::normals(&matrix, n);
+    let m = normals::normals(walls, &matrix, n);
     let fit = m.fit;
     match fit {
         Fit::Spherical => {
@@ -85,8 +86,8 @@ pub fn matrix(text: &[u8], wish: bool) -> Square
     }
 }
 
-pub fn mirrors(text: &[u8], wish: bool) -> Square
-    ensures { λ r. ⌜ r ≡ mirrorsOf (read wish (now (text .entry))) ⌝ }
+fn normals_of(walls: bool, text: &[u8], wish: bool) -> Square
+    ensures { λ r. ⌜ r ≡ normalsOf walls (read wish (now (text .entry))) ⌝ }
 {
     let r = builder::parse(text, wish);
     let a = r.answer;
@@ -95,10 +96,23 @@ pub fn mirrors(text: &[u8], wish: bool) -> Square
             let cd = r.cd;
             let cox = cox::matrix(cd);
             let at = cox.at;
-            mirrored(at, cox.count)
+            mirrored(walls, at, cox.count)
         }
         Answer::Refused(e) => refused_square(e),
     }
+}
+
+pub fn mirrors(text: &[u8], wish: bool) -> Square
+    ensures { λ r. ⌜ r ≡ mirrorsOf (read wish (now (text .entry))) ⌝ }
+{
+    normals_of(false, text, wish)
+}
+
+// Coxeter's walls, which meet with product −cos(π/m).
+pub fn walls(text: &[u8], wish: bool) -> Square
+    ensures { λ r. ⌜ r ≡ wallsOf (read wish (now (text .entry))) ⌝ }
+{
+    normals_of(true, text, wish)
 }
 
 pub fn family_matrix(letter: u8, size: usize) -> Square
@@ -116,15 +130,27 @@ pub fn family_matrix(letter: u8, size: usize) -> Square
     }
 }
 
-pub fn family_mirrors(letter: u8, size: usize) -> Square
-    ensures { λ r. ⌜ r ≡ familyMirrorsOf letter size ⌝ }
+fn family_normals(walls: bool, letter: u8, size: usize) -> Square
+    ensures { λ r. ⌜ r ≡ familyNormalsOf walls letter size ⌝ }
 {
     if !cox::families::is_family(letter, size) {
         return refused_square(CdError::NoFamily);
     }
     let cox = cox::families::family_matrix(letter, size);
     let at = cox.at;
-    mirrored(at, size)
+    mirrored(walls, at, size)
+}
+
+pub fn family_mirrors(letter: u8, size: usize) -> Square
+    ensures { λ r. ⌜ r ≡ familyMirrorsOf letter size ⌝ }
+{
+    family_normals(false, letter, size)
+}
+
+pub fn family_walls(letter: u8, size: usize) -> Square
+    ensures { λ r. ⌜ r ≡ familyWallsOf letter size ⌝ }
+{
+    family_normals(true, letter, size)
 }
 
 fn refused_generator(e: CdError) -> Generated
@@ -133,14 +159,14 @@ fn refused_generator(e: CdError) -> Generated
     let zeros = cox::zeros();
     Generated {
         answer: Answer::Refused(e),
-        generator: generator::of(&zeros, [0.0; cd::LIMIT], 0),
+        generator: generator::of(false, &zeros, [0.0; cd::LIMIT], 0),
     }
 }
 
-// The generator of a diagram whose mirrors fit.
-fn solved(cd: Cd, columns: [f64; SQUARE]) -> Generated
+// The generator of a diagram whose mirrors, or walls, fit.
+fn solved(walls: bool, cd: Cd, columns: [f64; SQUARE]) -> Generated
     requires { ⌜ cd .count ≤ limit ⌝ }
-    ensures { λ r. ⌜ ((ns : List Node) (es : List Stored) (m : squares.Square) → cd ≡ cdOf ns es → columns ≡ squares.flatSquare limit m → r ≡ solvedGenerator ns m) ⌝ }
+    ensures { λ r. ⌜ ((ns : List Node) (es : List Stored) (m : squares.Square) → cd ≡ cdOf ns es → columns ≡ squares.flatSquare limit m → r ≡ solvedGenerator walls ns m) ⌝ }
 {
     let n = cd.count;
     let values = generator::values(cd);
@@ -150,12 +176,12 @@ fn solved(cd: Cd, columns: [f64; SQUARE]) -> Generated
     }
     Generated {
         answer: Answer::Accepted,
-        generator: generator::of(&columns, values, n),
+        generator: generator::of(walls, &columns, values, n),
     }
 }
 
-pub fn generator(text: &[u8], wish: bool) -> Generated
-    ensures { λ r. ⌜ r ≡ generatorOfText (read wish (now (text .entry))) ⌝ }
+fn generator_over(walls: bool, text: &[u8], wish: bool) -> Generated
+    ensures { λ r. ⌜ r ≡ generatorOver walls (read wish (now (text .entry))) ⌝ }
 {
     let r = builder::parse(text, wish);
     let a = r.answer;
@@ -164,18 +190,32 @@ pub fn generator(text: &[u8], wish: bool) -> Generated
             let cd = r.cd;
             let cox = cox::matrix(cd);
             let at = cox.at;
-            let m = normals::normals(&at, cox.count);
+            let m = normals::normals(walls, &at, cox.count);
             let fit = m.fit;
             match fit {
                 Fit::Spherical => {
                     let columns = m.columns;
-                    solved(cd, columns)
+                    solved(walls, cd, columns)
                 }
                 Fit::Crowded(column) => refused_generator(CdError::Crowded { column: column }),
             }
         }
         Answer::Refused(e) => refused_generator(e),
     }
+}
+
+// As the Rust has it.
+pub fn generator(text: &[u8], wish: bool) -> Generated
+    ensures { λ r. ⌜ r ≡ generatorOfText (read wish (now (text .entry))) ⌝ }
+{
+    generator_over(false, text, wish)
+}
+
+// At its true distances: half a node's value from its wall.
+pub fn wall_generator(text: &[u8], wish: bool) -> Generated
+    ensures { λ r. ⌜ r ≡ wallGeneratorOfText (read wish (now (text .entry))) ⌝ }
+{
+    generator_over(true, text, wish)
 }
 
 fn refused_reflections(e: CdError) -> Reflected
@@ -198,7 +238,7 @@ pub fn reflections(text: &[u8], wish: bool) -> Reflected
             let cd = r.cd;
             let cox = cox::matrix(cd);
             let at = cox.at;
-            let m = normals::normals(&at, cox.count);
+            let m = normals::normals(false, &at, cox.count);
             let fit = m.fit;
             match fit {
                 Fit::Spherical => {

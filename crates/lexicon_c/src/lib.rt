@@ -6,8 +6,8 @@ use parse::Answer;
 use shelf::Found;
 ghost use Rattle.lent.specs.Outcomes.{Lends};
 ghost use Rattle.lent.specs.Shown.{ofSquare, ofGenerated, ofReflected};
-ghost use Rattle.geometry.specs.Points.{generatorOfText, reflectionsOfText};
-ghost use Rattle.geometry.specs.Squares.{matrixOf, mirrorsOf, familyMatrixOf, familyMirrorsOf};
+ghost use Rattle.geometry.specs.Points.{generatorOfText, wallGeneratorOfText, reflectionsOfText};
+ghost use Rattle.geometry.specs.Squares.{matrixOf, mirrorsOf, wallsOf, familyMatrixOf, familyMirrorsOf, familyWallsOf};
 ghost use Rattle.parse.specs.Reading.{read};
 ghost use Rattle.lexicon_c.specs.Calls.{wished, ReadsForC, FilesForC, ReadsRecordForC, Tells, foundNumbers, ChecksForC, FindsForC, BisectsForC, AddsForC};
 
@@ -86,6 +86,18 @@ pub extern "C" fn lexicon_mirrors(
 }
 
 #[no_mangle]
+pub extern "C" fn lexicon_walls(
+    text: &[u8],
+    wish: usize,
+    out: &mut [f64],
+    answer: &mut [usize; ANSWER],
+) -> usize
+    ensures { λ r. ⌜ Lends (ofSquare (wallsOf (read (wished wish) (now (text .entry))))) (now (out .entry)) (now (out .exit)) (now (answer .exit)) r ⌝ }
+{
+    lent::show_square(geometry::walls(text, wish != 0), out, answer)
+}
+
+#[no_mangle]
 pub extern "C" fn lexicon_generator(
     text: &[u8],
     wish: usize,
@@ -95,6 +107,18 @@ pub extern "C" fn lexicon_generator(
     ensures { λ r. ⌜ Lends (ofGenerated (generatorOfText (read (wished wish) (now (text .entry))))) (now (out .entry)) (now (out .exit)) (now (answer .exit)) r ⌝ }
 {
     lent::show_generated(geometry::generator(text, wish != 0), out, answer)
+}
+
+#[no_mangle]
+pub extern "C" fn lexicon_wall_generator(
+    text: &[u8],
+    wish: usize,
+    out: &mut [f64],
+    answer: &mut [usize; ANSWER],
+) -> usize
+    ensures { λ r. ⌜ Lends (ofGenerated (wallGeneratorOfText (read (wished wish) (now (text .entry))))) (now (out .entry)) (now (out .exit)) (now (answer .exit)) r ⌝ }
+{
+    lent::show_generated(geometry::wall_generator(text, wish != 0), out, answer)
 }
 
 #[no_mangle]
@@ -131,6 +155,18 @@ pub extern "C" fn lexicon_family_mirrors(
     ensures { λ r. ⌜ Lends (ofSquare (familyMirrorsOf letter size)) (now (out .entry)) (now (out .exit)) (now (answer .exit)) r ⌝ }
 {
     lent::show_square(geometry::family_mirrors(letter, size), out, answer)
+}
+
+#[no_mangle]
+pub extern "C" fn lexicon_family_walls(
+    letter: u8,
+    size: usize,
+    out: &mut [f64],
+    answer: &mut [usize; ANSWER],
+) -> usize
+    ensures { λ r. ⌜ Lends (ofSquare (familyWallsOf letter size)) (now (out .entry)) (now (out .exit)) (now (answer .exit)) r ⌝ }
+{
+    lent::show_square(geometry::family_walls(letter, size), out, answer)
 }
 
 // ---- shelf files

@@ -1,4 +1,4 @@
-// Reads as `cdlist` does, and answers each line with a text's matrix, mirrors, generator or reflections, or with a family's matrix or mirrors,
+// Reads as `cdlist` does, and answers each line with a text's matrix, mirrors, walls, generators or reflections, or with a family's matrix, mirrors or walls,
 // each double by its bits. oracle/cox.py has the kinds of lines.
 use cd::LIMIT;
 use cd::SQUARE;
@@ -219,6 +219,8 @@ fn answer(s: &[u8], out: &mut [u8], at: usize) -> usize
         b'm' => put_square(out, at, geometry::matrix(&s[2..], true)),
         b'n' => put_square(out, at, geometry::mirrors(&s[2..], true)),
         b'g' => put_generated(out, at, geometry::generator(&s[2..], true)),
+        b'w' => put_square(out, at, geometry::walls(&s[2..], true)),
+        b't' => put_generated(out, at, geometry::wall_generator(&s[2..], true)),
         b'r' => put_reflected(out, at, geometry::reflections(&s[2..], true)),
         b'M' => {
             let f = named(&s[2..]);
@@ -227,6 +229,10 @@ fn answer(s: &[u8], out: &mut [u8], at: usize) -> usize
         b'N' => {
             let f = named(&s[2..]);
             put_square(out, at, geometry::family_mirrors(f.letter, f.size))
+        }
+        b'W' => {
+            let f = named(&s[2..]);
+            put_square(out, at, geometry::family_walls(f.letter, f.size))
         }
         _ => at,
     }

@@ -1,4 +1,5 @@
 -- `geometry::reflections` meets its contract. Assumes nothing.
+use mathlib.Core.Bool.{false}
 use mathlib.Core.Path.{_≡_}
 use Rattle.parse.specs.Reading.{read}
 use Rattle.lexicon.proofs.Answers.{Accepts, accepts, refuses}
@@ -25,7 +26,7 @@ few : (c : tie.After-matrix) → c .matrix .result .count ≤ limit
 few c = let t = c .before .before in let a = accepted t in rw (matrix-count _ _ _ (held c)) (accepted-few _ _ (a .ns) (a .es) (a .is))
 
 -- what `normals` tells of the matrix
-columns : (c : tie.After-normals) → let a = accepted (c .before .before .before .before .before) in c .normals .result ≡ mirrorsOf (c .before .before .before .matrix .result .count) (mirrors (matrix (a .es)) (c .before .before .before .matrix .result .count))
+columns : (c : tie.After-normals) → let a = accepted (c .before .before .before .before .before) in c .normals .result ≡ mirrorsOf (c .before .before .before .matrix .result .count) (mirrors false (matrix (a .es)) (c .before .before .before .matrix .result .count))
 columns c = let m = c .before .before .before in c .normals .ensures _ (matrix-at _ _ _ (held m))
 
 parse-requires : tie.Need-parse-requires

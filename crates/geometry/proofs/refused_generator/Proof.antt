@@ -6,6 +6,7 @@ use Rattle.cd.specs.Diagrams.{limit}
 use Rattle.cox.specs.Squares.{nil, zeros, flat}
 use Rattle.float.specs.Numbers.{whole}
 use Rattle.generator.specs.Generator.{solve}
+use Rattle.generator.specs.TrueDistances.{coordinates}
 use Rattle.geometry.proofs.Shapes.{generator-none}
 use borrow.Author.Needs.{needs}
 use Rattle.geometry.proofs.refused_generator.Statement.{statement}
@@ -22,7 +23,7 @@ of-requires : tie.Need-of-requires
 of-requires c κs = search needs
 
 returns : tie.Need-returns
-unfolding solve
+unfolding coordinates solve
 returns c = generator-none _ _ (c .of .ensures zeros (λ i. nil) (c .before .before .zeros .ensures) nine-zeros)
 
 pub refused-generator-spec : {M : Type 1} → statement M

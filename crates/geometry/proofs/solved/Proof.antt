@@ -1,8 +1,9 @@
 -- `geometry::solved` meets its contract: 16 comes before the generator. Assumes nothing.
 use mathlib.Core.Path.{_≡_, subst}
 use Rattle.cd.proofs.Stored.{count-held}
-use Rattle.generator.specs.Generator.{values, solve}
+use Rattle.generator.specs.Generator.{values}
 use Rattle.generator.specs.Shown.{generatorOf}
+use Rattle.generator.specs.TrueDistances.{coordinates}
 use Rattle.geometry.proofs.Shapes.{generator-infinite, generator-solved}
 use borrow.Author.Needs.{needs}
 use Rattle.geometry.proofs.solved.Statement.{statement}
@@ -21,7 +22,7 @@ returns : tie.Need-returns
 returns c ns es m held h =
     let f = c .before .before in
     let n = count-held _ ns es held in
-    generator-infinite ns m _ _ (f .first-infinite .ensures ns n (f .before .values .ensures ns es held)) (rw n at (c .before .if1 .taken)) (c .refused-generator .ensures)
+    generator-infinite _ ns m _ _ (f .first-infinite .ensures ns n (f .before .values .ensures ns es held)) (rw n at (c .before .if1 .taken)) (c .refused-generator .ensures)
 
 of-requires : tie.Need-of-requires
 of-requires c κs = search needs
@@ -31,8 +32,8 @@ returns-2 c ns es m held h =
     let f = c .before .before in
     let n = count-held _ ns es held in
     let v = f .before .before .values .ensures ns es held in
-    generator-solved ns m _ _ (f .before .first-infinite .ensures ns n v) (rw n at (f .if1 .left))
-    (subst (λ k. c .of .result ≡ generatorOf k (solve m k (values ns))) n (c .of .ensures m (values ns) h v))
+    generator-solved _ ns m _ _ (f .before .first-infinite .ensures ns n v) (rw n at (f .if1 .left))
+    (subst (λ k. c .of .result ≡ generatorOf k (coordinates (c .before .before .before .before .before .args .walls) m k (values ns))) n (c .of .ensures m (values ns) h v))
 
 pub solved-spec : {M : Type 1} → statement M
 solved-spec =

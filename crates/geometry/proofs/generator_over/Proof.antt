@@ -1,4 +1,4 @@
--- `geometry::generator` meets its contract. Assumes nothing.
+-- `geometry::generator_over` meets its contract. Assumes nothing.
 use mathlib.Core.Path.{_≡_}
 use Rattle.parse.specs.Reading.{read}
 use Rattle.lexicon.proofs.Answers.{read-few, Accepts, accepts, refuses}
@@ -11,8 +11,8 @@ use Rattle.normals.specs.Mirrors.{mirrors}
 use Rattle.normals.specs.Shown.{mirrorsOf}
 use Rattle.geometry.proofs.Shapes.{fits, crowded, matrix-at, matrix-count, generator-shown, generator-crowded, generator-refused}
 use borrow.Author.Needs.{needs}
-use Rattle.geometry.proofs.generator.Statement.{statement}
-use Rattle.geometry.proofs.generator.Tie as tie
+use Rattle.geometry.proofs.generator_over.Statement.{statement}
+use Rattle.geometry.proofs.generator_over.Tie as tie
 
 -- the text is accepted, and its matrix is held
 accepted : (c : tie.After-enum-told) → Accepts (read (c .before .before .before .before .args .wish) (c .before .before .before .before .args .text .now)) (c .before .before .parse .result)
@@ -25,7 +25,7 @@ few : (c : tie.After-matrix) → c .matrix .result .count ≤ limit
 few c = let t = c .before .before in let a = accepted t in rw (matrix-count _ _ _ (held c)) (accepted-few _ _ (a .ns) (a .es) (a .is))
 
 -- what `normals` tells of the matrix
-columns : (c : tie.After-normals) → let a = accepted (c .before .before .before .before .before) in c .normals .result ≡ mirrorsOf (c .before .before .before .matrix .result .count) (mirrors (matrix (a .es)) (c .before .before .before .matrix .result .count))
+columns : (c : tie.After-normals) → let a = accepted (c .before .before .before .before .before) in c .normals .result ≡ mirrorsOf (c .before .before .before .matrix .result .count) (mirrors (c .before .before .before .before .before .before .before .before .before .args .walls) (matrix (a .es)) (c .before .before .before .matrix .result .count))
 columns c = let m = c .before .before .before in c .normals .ensures _ (matrix-at _ _ _ (held m))
 
 parse-requires : tie.Need-parse-requires
@@ -64,7 +64,7 @@ returns c =
     let m = y .before .before .before in
     let a = accepted (m .before .before) in
     let f = fits _ _ _ (columns y) (c .before .before .enum-told2 .given .1) in
-    generator-shown _ (a .ns) (a .es) (a .is) _ (matrix-count _ _ _ (held m)) (f .square) _ (f .is) (c .solved .ensures (a .ns) (a .es) (f .square) (a .held) (f .held))
+    generator-shown _ (a .ns) (a .es) (a .is) _ (matrix-count _ _ _ (held m)) _ (f .square) _ (f .is) (c .solved .ensures (a .ns) (a .es) (f .square) (a .held) (f .held))
 
 returns-2 : tie.Need-returns-2
 returns-2 c =
@@ -72,13 +72,13 @@ returns-2 c =
     let y = k .before .before in
     let m = y .before .before .before in
     let a = accepted (m .before .before) in
-    generator-crowded _ (a .ns) (a .es) (a .is) _ (matrix-count _ _ _ (held m)) _ _ (crowded _ _ _ _ (columns y) (k .fit .given .1)) (c .refused-generator .ensures)
+    generator-crowded _ (a .ns) (a .es) (a .is) _ (matrix-count _ _ _ (held m)) _ _ _ (crowded _ _ _ _ (columns y) (k .fit .given .1)) (c .refused-generator .ensures)
 
 returns-3 : tie.Need-returns-3
-returns-3 c = let k = c .before .before in generator-refused _ _ _ (refuses _ _ _ (k .before .before .parse .ensures) (k .a .given .1)) (c .refused-generator2 .ensures)
+returns-3 c = let k = c .before .before in generator-refused _ _ _ _ (refuses _ _ _ (k .before .before .parse .ensures) (k .a .given .1)) (c .refused-generator2 .ensures)
 
-pub generator-spec : {M : Type 1} → statement M
-generator-spec =
+pub generator-over-spec : {M : Type 1} → statement M
+generator-over-spec =
     tie.close
     (tie.spec
     parse-requires

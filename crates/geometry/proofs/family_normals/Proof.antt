@@ -1,11 +1,11 @@
--- `geometry::family_mirrors` meets its contract. Assumes nothing.
+-- `geometry::family_normals` meets its contract. Assumes nothing.
 use borrow.Author.Tests.{not-true, not-false}
 use mathlib.Core.Path.{sym, _∙_}
 use Rattle.cox.specs.Families.{familyMatrix}
-use Rattle.geometry.proofs.Shapes.{family-few, family-at, family-mirrors-shown, family-mirrors-refused}
+use Rattle.geometry.proofs.Shapes.{family-few, family-at, family-normals-shown, family-normals-refused}
 use borrow.Author.Needs.{needs}
-use Rattle.geometry.proofs.family_mirrors.Statement.{statement}
-use Rattle.geometry.proofs.family_mirrors.Tie as tie
+use Rattle.geometry.proofs.family_normals.Statement.{statement}
+use Rattle.geometry.proofs.family_normals.Tie as tie
 
 is-family-requires : tie.Need-is-family-requires
 is-family-requires c κs = search needs
@@ -14,7 +14,7 @@ refused-square-requires : tie.Need-refused-square-requires
 refused-square-requires c κs = search needs
 
 returns : tie.Need-returns
-returns c = let f = c .before .before in family-mirrors-refused _ _ _ (sym (f .is-family .ensures) ∙ not-true _ (c .before .if1 .taken)) (c .refused-square .ensures)
+returns c = let f = c .before .before in family-normals-refused _ _ _ _ (sym (f .is-family .ensures) ∙ not-true _ (c .before .if1 .taken)) (c .refused-square .ensures)
 
 family-matrix-requires : tie.Need-family-matrix-requires
 family-matrix-requires c κs = search needs
@@ -26,10 +26,10 @@ returns-2 : tie.Need-returns-2
 returns-2 c =
     let g = c .before .before in
     let f = g .before in
-    family-mirrors-shown _ _ _ (sym (f .before .is-family .ensures) ∙ not-false _ (f .if1 .left)) (c .mirrored .ensures (familyMatrix _) (family-at _ _ _ (g .family-matrix .ensures)))
+    family-normals-shown _ _ _ _ (sym (f .before .is-family .ensures) ∙ not-false _ (f .if1 .left)) (c .mirrored .ensures (familyMatrix _) (family-at _ _ _ (g .family-matrix .ensures)))
 
-pub family-mirrors-spec : {M : Type 1} → statement M
-family-mirrors-spec =
+pub family-normals-spec : {M : Type 1} → statement M
+family-normals-spec =
     tie.close
     (tie.spec
     is-family-requires

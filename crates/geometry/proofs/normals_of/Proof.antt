@@ -1,4 +1,4 @@
--- `geometry::mirrors` meets its contract. Assumes nothing.
+-- `geometry::normals_of` meets its contract. Assumes nothing.
 use mathlib.Core.Path.{_≡_}
 use Rattle.parse.specs.Reading.{read}
 use Rattle.lexicon.proofs.Answers.{Accepts, accepts, refuses}
@@ -7,10 +7,10 @@ use Prim.Native.Nat.{_≤_}
 use Rattle.cd.specs.Diagrams.{limit}
 use Rattle.parse.proofs.Outcomes.{accepted-few}
 use Rattle.cox.specs.Matrix.{matrix}
-use Rattle.geometry.proofs.Shapes.{matrix-at, matrix-count, mirrors-shown, mirrors-refused}
+use Rattle.geometry.proofs.Shapes.{matrix-at, matrix-count, normals-shown, normals-refused}
 use borrow.Author.Needs.{needs}
-use Rattle.geometry.proofs.mirrors.Statement.{statement}
-use Rattle.geometry.proofs.mirrors.Tie as tie
+use Rattle.geometry.proofs.normals_of.Statement.{statement}
+use Rattle.geometry.proofs.normals_of.Tie as tie
 
 -- the text is accepted, and its matrix is held
 accepted : (c : tie.After-enum-told) → Accepts (read (c .before .before .before .before .args .wish) (c .before .before .before .before .args .text .now)) (c .before .before .parse .result)
@@ -44,13 +44,13 @@ returns : tie.Need-returns
 returns c =
     let m = c .before .before in
     let a = accepted (m .before .before) in
-    mirrors-shown _ (a .ns) (a .es) (a .is) _ (held m) _ (c .mirrored .ensures (matrix (a .es)) (matrix-at _ _ _ (held m)))
+    normals-shown _ (a .ns) (a .es) (a .is) _ (held m) _ _ (c .mirrored .ensures (matrix (a .es)) (matrix-at _ _ _ (held m)))
 
 returns-2 : tie.Need-returns-2
-returns-2 c = let k = c .before .before in mirrors-refused _ _ _ (refuses _ _ _ (k .before .before .parse .ensures) (k .a .given .1)) (c .refused-square .ensures)
+returns-2 c = let k = c .before .before in normals-refused _ _ _ _ (refuses _ _ _ (k .before .before .parse .ensures) (k .a .given .1)) (c .refused-square .ensures)
 
-pub mirrors-spec : {M : Type 1} → statement M
-mirrors-spec =
+pub normals-of-spec : {M : Type 1} → statement M
+normals-of-spec =
     tie.close
     (tie.spec
     parse-requires
