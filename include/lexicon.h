@@ -29,7 +29,7 @@
  *   12      a buffer shorter than what the call writes
  *   13      a record that is not 370 bytes long
  *   14      bytes laid out for no diagram in any numbering
- *   15      mirrors that do not exist                          column: the first that does not fit
+ *   15      mirrors, or walls, that do not exist               column: the first that does not fit
  *   16      an infinite length                                 node: the first such
  *   17      a letter or a size that no family has
  *   18      a file whose length is no multiple of 370
@@ -61,7 +61,7 @@ enum {
     LEXICON_ANSWER = 4,        /* numbers of an answer */
     LEXICON_RECORD = 370,      /* bytes of a record, and of a place of a file */
     LEXICON_DIAGRAM = 153,     /* numbers of a diagram */
-    LEXICON_SQUARE = 81,       /* doubles of a matrix or of mirrors */
+    LEXICON_SQUARE = 81,       /* doubles of a matrix, of mirrors or of walls */
     LEXICON_GENERATOR = 10,    /* doubles of a generator */
     LEXICON_REFLECTIONS = 729  /* doubles of reflections */
 };
@@ -102,10 +102,21 @@ size_t lexicon_matrix(const uint8_t *text, size_t text_len, size_t wish, double 
  * Refuses with 1 to 11, 23, 15 and 12. */
 size_t lexicon_mirrors(const uint8_t *text, size_t text_len, size_t wish, double *out, size_t out_len, size_t answer[LEXICON_ANSWER]);
 
-/* The generator of a text's diagram: nine coordinates, zeros past the last node, and in out[9] its circumradius. Tells the nodes. As in miratope-core it
- * depends on the order of the nodes: the radii of x3o4o and o4o3x, which are one figure, are 1 and the root of 5.
+/* The walls of a text's diagram, laid out as for lexicon_mirrors. They are mirrors as Coxeter has them: two of them meet with product -cos(pi / m), where
+ * those of lexicon_mirrors, which are miratope-core's, meet with cos(pi / m). So o3o3o3*a, whose group is infinite, has no walls, but has mirrors. Tells the nodes.
+ * Refuses with 1 to 11, 23, 15 and 12. */
+size_t lexicon_walls(const uint8_t *text, size_t text_len, size_t wish, double *out, size_t out_len, size_t answer[LEXICON_ANSWER]);
+
+/* The generator of a text's diagram as miratope-core computes it: nine coordinates, zeros past the last node, and in out[9] its circumradius. Tells the nodes. It
+ * depends on the order of the nodes: the radii of x3o4o and o4o3x, which are one figure, are 1 and the root of 5. To print, take lexicon_wall_generator.
  * Refuses with 1 to 11, 23, 15, 16 and 12. */
 size_t lexicon_generator(const uint8_t *text, size_t text_len, size_t wish, double *out, size_t out_len, size_t answer[LEXICON_ANSWER]);
+
+/* The generator over the walls, laid out as for lexicon_generator: the point whose distance from the wall of node i is half the length of i, so that its images
+ * are joined by edges of these lengths: x alone has radius 1/2. It is the one to print, since its circumradius is the figure's and is the same for every text of the
+ * figure, up to rounding: that of x3o4o and of o4o3x is the root of 1/2. Tells the nodes.
+ * Refuses with 1 to 11, 23, 15, 16 and 12. */
+size_t lexicon_wall_generator(const uint8_t *text, size_t text_len, size_t wish, double *out, size_t out_len, size_t answer[LEXICON_ANSWER]);
 
 /* The reflections in the mirrors of a text's diagram: row r of column c of the reflection in mirror m at out[81 * m + 9 * c + r]; past the last node a
  * reflection goes on as the unit matrix, and past the last mirror there are zeros. Tells the nodes.
@@ -119,6 +130,10 @@ size_t lexicon_family_matrix(uint8_t letter, size_t size, double *out, size_t ou
 /* The mirrors of a family, laid out as for lexicon_mirrors. Tells the nodes.
  * Refuses with 17, 15 and 12. */
 size_t lexicon_family_mirrors(uint8_t letter, size_t size, double *out, size_t out_len, size_t answer[LEXICON_ANSWER]);
+
+/* The walls of a family, laid out as for lexicon_mirrors. Tells the nodes.
+ * Refuses with 17, 15 and 12. */
+size_t lexicon_family_walls(uint8_t letter, size_t size, double *out, size_t out_len, size_t answer[LEXICON_ANSWER]);
 
 /* ---- shelf files
  *

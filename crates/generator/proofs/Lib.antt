@@ -1,4 +1,3 @@
--- The laws of node values, of the system's solution, of the first infinite value, and of the second generator without rounding.
+-- The laws of node values, of the system's solution, and of the first infinite value.
 mod Rows
 pub mod Infinite
-pub mod HalfValues

@@ -1,5 +1,5 @@
 -- Document 02, K7, of the second generator: "Its coordinates come by rising i: half the node's value, less each earlier coordinate k < i times row k of column i, taken off by
--- rising k, the rest divided by row i of column i." The steps are said of any numbers, so that proofs/HalfValues.antt tells what they come to where nothing is
+-- rising k, the rest divided by row i of column i." The steps are said of any numbers, so that geometry/proofs/HalfValues.antt tells what they come to where nothing is
 -- rounded; the calls take them in doubles.
 use mathlib.Core.Bool.{Bool, true, false}
 use Prim.Native.Nat.{ℕ, zero, suc}

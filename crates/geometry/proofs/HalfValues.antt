@@ -1,5 +1,5 @@
 -- Document 02, K7, has of cd.rs: "a node's value is twice the distance to its mirror". Where nothing is rounded the second generator lies there: its product with column i is half
--- the value of node i. The steps are those of specs/TrueDistances.antt, which the calls take in doubles; here they are taken in any field, such as the real
+-- the value of node i. The steps are those of generator/specs/TrueDistances.antt, which the calls take in doubles; here they are taken in any field, such as the real
 -- numbers, of which the laws below are all that is used. A column has zeros past its diagonal. Assumes nothing.
 use mathlib.Core.Logic.{_≢_}
 use mathlib.Core.Path.{_≡_, refl, sym, ap, ap₂, _∙_}
