@@ -1,5 +1,5 @@
-"""Matrices, mirrors, generators, reflections and families from document 01's words alone; the Rust's beside them; and what the program
-`replay_cox` answers to each line of its input.
+"""Matrices, mirrors, generators, reflections and families from document 01's words alone, and the walls and their generator from ticket K7's; the
+Rust's, which has no walls, beside them; and what the program `replay_cox` answers to each line of its input.
 
 `cox.py`                  the Rust and the model say the same; crates/replay_cox holds the lines of cox_corpus.py, and as its answers the
                           Rust's, or the model's where the Rust has none
@@ -16,11 +16,16 @@ column.
     M LETTER SIZE     ok SIZE DOUBLE..            a family's matrix; or `no 17`
     N LETTER SIZE     ok SIZE DOUBLE..            its mirrors; or 17 or 15
 
+    w TEXT            ok NODES DOUBLE..           the walls, which are the mirrors with each cosine negated; or 15
+    t TEXT            ok NODES DOUBLE.. DOUBLE    the generator over them, at its true distances, and its circumradius; or 15; or 16
+    W LETTER SIZE     ok SIZE DOUBLE..            a family's walls; or 17 or 15
+
 Exit status: 0 nothing differs, 1 something does.
 """
 
 import collections
 import math
+import operator
 import pathlib
 import struct
 import subprocess
@@ -41,6 +46,8 @@ PI = 3.141592653589793
 TOO_LONG = 1 - 1e-7
 # "Least sizes A 1, B 2, H 2, D 3, E 4; greatest 9."
 LEAST, GREATEST = {"A": 1, "B": 2, "H": 2, "D": 3, "E": 4}, 9
+# The kinds of lines that ticket K7 adds; the Rust is not asked them.
+OF_WALLS = "wtW"
 
 
 def rising(terms):
@@ -97,32 +104,56 @@ def family(letter, size):
     return columns
 
 
-def mirrors(entry):
+def mirrors(entry, sign=operator.pos, too_long=TOO_LONG):
+    """The sign is that of each cosine."""
     columns = [[0.0] * len(entry) for _ in entry]
     for i, column in enumerate(columns):
         for j in range(i):
             known = dot(column[:j + 1], columns[j][:j + 1])
-            column[j] = (cosine(PI / entry[i][j]) - known) / columns[j][j]
+            column[j] = (sign(cosine(PI / entry[i][j])) - known) / columns[j][j]
         s = dot(column, column)
-        if s >= TOO_LONG:
+        if s >= too_long:
             raise Refusal(15, i)
         column[i] = math.sqrt(1 - s)
     return columns
 
 
-def generator(diagram):
-    """The coordinates and the circumradius."""
-    nodes, _ = diagram
-    columns = mirrors(matrix(diagram))
+def walls(entry):
+    """K7: "a second set of mirrors with each cosine negated, 01's steps and tolerance otherwise"."""
+    return mirrors(entry, operator.neg)
+
+
+def values(nodes):
+    """Of each node; 16 if one is infinite."""
     b = [0.0 if kind == "o" else value for kind, value in nodes]
     for node, value in enumerate(b):
         if math.isinf(value):
             raise Refusal(16, node)
+    return b
+
+
+def generator(diagram):
+    """The coordinates and the circumradius."""
+    columns = mirrors(matrix(diagram))
+    b = values(diagram[0])
     for i in reversed(range(len(b))):
         b[i] /= columns[i][i]
         for r in range(i):
             b[r] -= b[i] * columns[i][r]
     return b, math.sqrt(dot(b, b))
+
+
+def wall_generator(diagram):
+    """K7: "coordinates come by rising i: half the node's value, less each earlier coordinate k < i times row k of column i, taken off by rising k,
+    the rest divided by row i of column i. Circumradius and the refusals 15 and 16 follow as in 01." """
+    columns = walls(matrix(diagram))
+    coordinates = []
+    for column, value in zip(columns, values(diagram[0])):
+        rest = value / 2
+        for earlier, row in zip(coordinates, column):
+            rest -= earlier * row
+        coordinates.append(rest / column[len(coordinates)])
+    return coordinates, math.sqrt(dot(coordinates, coordinates))
 
 
 def reflection(n):
@@ -137,22 +168,25 @@ def reflection(n):
 def answer(line):
     kind, rest = chr(line[0]), line[2:]
     try:
-        if kind in "MN":
+        if kind in "MNW":
             letter, size = rest[:1].decode(), int(rest[2:])
-            entry = family(letter, size)
-            return ok(size, *(entry if kind == "M" else mirrors(entry)))
+            return ok(size, *of_matrix(kind.lower(), family(letter, size)))
         diagram = model.read(rest, wish=True)
-        count, entry = len(diagram[0]), matrix(diagram)
-        if kind == "m":
-            return ok(count, *entry)
-        if kind == "n":
-            return ok(count, *mirrors(entry))
-        if kind == "r":
-            return ok(count, *(column for n in mirrors(entry) for column in reflection(n)))
-        coordinates, radius = generator(diagram)
-        return ok(count, coordinates, [radius])
+        count = len(diagram[0])
+        if kind in "gt":
+            coordinates, radius = (generator if kind == "g" else wall_generator)(diagram)
+            return ok(count, coordinates, [radius])
+        return ok(count, *of_matrix(kind, matrix(diagram)))
     except Refusal as refusal:
         return " ".join(["no", *map(str, refusal.args)])
+
+
+def of_matrix(kind, entry):
+    """The columns that answer a line of the kind; a family's is its lower-case one."""
+    if kind == "m":
+        return entry
+    columns = walls(entry) if kind == "w" else mirrors(entry)
+    return [column for n in columns for column in reflection(n)] if kind == "r" else columns
 
 
 def ok(count, *rows):
@@ -202,15 +236,21 @@ def of_the_rust(lines):
     """Its answers, or none at all where it can't be built, which oracle/build says."""
     if subprocess.run([BUILD]).returncode != 0:
         return []
-    out = subprocess.run([COX], input=stored.ended(lines), stdout=subprocess.PIPE, check=True).stdout.decode().splitlines()
-    assert len(out) == len(lines)
-    return out
+    asked = [line for line in lines if not of_walls(line)]
+    out = subprocess.run([COX], input=stored.ended(asked), stdout=subprocess.PIPE, check=True).stdout.decode().splitlines()
+    assert len(out) == len(asked)
+    replies = iter(out)
+    return ["?" if of_walls(line) else next(replies) for line in lines]
+
+
+def of_walls(line):
+    return chr(line[0]) in OF_WALLS
 
 
 def may_be_silent(line, answer):
-    """The Rust has no refusals 16 and 17. In place of 16 it hands out a circumradius that is infinite or nan, which `cox` tells; of the families it
-    panics below the least sizes."""
-    return answers.sort(answer) in ("no 16", "no 17") or answers.may_be_silent(line[2:], answer)
+    """The Rust has no walls. It has no refusals 16 and 17: in place of 16 it hands out a circumradius that is infinite or nan, which `cox` tells; of
+    the families it panics below the least sizes."""
+    return of_walls(line) or answers.sort(answer) in ("no 16", "no 17") or answers.may_be_silent(line[2:], answer)
 
 
 if __name__ == "__main__":

@@ -1,9 +1,11 @@
-"""The lines for crates/replay_cox, small enough for one run of a program that reads 65,536 bytes; cox.py has their forms.
+"""The lines for crates/replay_cox, small enough for one run of a program that reads 65,536 bytes; cox.py has their forms. Those of ticket K7's walls
+are made in wall_corpus.py and stand behind all others.
 
 Where it is known beforehand how an answer begins, the line comes with that beginning.
 """
 
 import itertools
+import operator
 import re
 
 import chance
@@ -12,22 +14,35 @@ import cox
 import figures
 import model
 
-MOST = 60000
+MOST = 65500
 OF_TEXTS = "mngr"
 ONE = cox.digits(1.0)
 
 # Fractions whose cosines are small enough for nine mirrors, each at such an angle to each other.
 WIDE = [(3, 1), (3, 1), (5, 2), (5, 2), (7, 3), (7, 3), (8, 3), (9, 4), (11, 5), (11, 4), (11, 6), (9, 5)]
 
+# Texts with fractions that are not in lowest terms, and the same texts in lowest terms.
+UNREDUCED = {
+    "x6/2o": "x3o", "x9/3o": "x3o", "x8/2o6/2o": "x4o3o", "x10/4o10/2o": "x5/2o5o", "x6/2o10/4o": "x3o5/2o", "x14/6o": "x7/3o",
+    "x3221225472/1073741824o": "x3o", "x4294967295/1431655765o": "x3o", "x4294967295/2863311530o": "x3/2o",
+    "x4294967295/1717986918o3o": "x5/2o3o", "x7/4294967292/1840700268o": "x7/3o", "x4237481062/2618907323o": "x63245986/39088169o",
+    "x4294956175/2654428896o": "x75025/46368o", "x4292870399/4291428937o": "x65519/65497o",
+    "x2147483650/2147483648o": "x1073741825/1073741824o", "x4294964900/432350o": "x9934o", "x4294960110/432306o": "x9935o",
+    "x3973835236/400000o": "x993458809/100000o", "x3973835238/400000o": "x1986917619/200000o", "x8/2o8/2o": "x4o4o",
+    "x6/2o9/3o12/4*a": "x3o3o3*a", "x6/2*a8/2o": "x4o", "*b6/2*a xo": "x3o", "x4294967294/2147483647o6/2x": "x o3x",
+    "(-1.5)6/2(2)": "(-1.5)3(2)", "(inf)6/2o": "(inf)3o"}
+
 
 def corpus():
     """From each line to the beginning of its answer."""
+    import wall_corpus                                                      # imports this file
+
     dice = chance.Dice(5)
     lines = {}
     for line, expected in itertools.chain(
             families(), no_family(), document_01(), published(), cosines(dice), quotients(dice), dense(dice), edge_of_15(), columns_of_15(),
             infinite_groups(), lengths(dice), infinite_lengths(), loops_and_lone_nodes(), small_reflections(), by_chance(dice), refused_texts(),
-            unreduced(dice)):
+            unreduced(dice), wall_corpus.lines()):
         lines[line] = max(lines.get(line, ""), expected, key=len)
     assert not any(b"\n" in line for line in lines)
     assert sum(len(line) + 1 for line in lines) <= MOST
@@ -153,20 +168,21 @@ def dense(dice):
         yield from of("r", [dense_text(dice, count, count)], f"ok {count} ")
 
 
-def dense_text(dice, least=3, most=9):
-    """A text with mirrors, of about that many nodes, few pairs unjoined."""
+def dense_text(dice, least=3, most=9, fractions=WIDE, sign=operator.pos):
+    """A text with mirrors, or walls, of about that many nodes, few pairs unjoined."""
     while True:
         count = least + dice.below(most - least + 1)
         nodes = [dice.pick([dice.pick(list(model.LETTERS.values())), ("x", dice.pick([1.5, -1.0, 0.1, -0.0, 1e9, 12345.678]))])
                  for _ in range(count)]
-        edges = [(a, b, dice.pick(WIDE)) for a, b in itertools.combinations(range(count), 2) if dice.below(8)]
-        if has_mirrors(nodes, edges) and (text := figures.respelled(dice, (nodes, edges))):
+        edges = [(a, b, dice.pick(fractions)) for a, b in itertools.combinations(range(count), 2) if dice.below(8)]
+        if has_mirrors(nodes, edges, sign) and (text := figures.respelled(dice, (nodes, edges))):
             return text
 
 
-def has_mirrors(nodes, edges):
+def has_mirrors(nodes, edges, sign=operator.pos):
+    """With each cosine's sign changed so."""
     try:
-        return bool(cox.mirrors(cox.matrix((nodes, edges))))
+        return bool(cox.mirrors(cox.matrix((nodes, edges)), sign))
     except model.Refusal:
         return False
 
@@ -224,7 +240,7 @@ def infinite_groups():
                           "x3o3o3o3o *a3*c3*e3*a", "x100o100o100*a", "x5o5o5*a", "x4o4o3*a"], "ok ")
 
 
-def lengths(dice):
+def lengths(dice, count=50):
     """Generators of other lengths, zeros of both signs, and the greatest and the smallest: squares stay far from the doubles' ends."""
     zeros = ["(-0)", "(0)", "(-0)3o", "o3(-0)", "(-0)3(-0)", "(-0)3x", "x3(-0)", "(-0)5/3(-0)", "(-0)5/3x", "o5/3(-0)", "(-0)(-0)", "(-0)o(-0)",
              "(-0)3(-1)", "(0)4(-0)3(0)", "(-0)3/2(0)", "(-0)3/2(-0)", "(-0)4o4o", "(-0)3*a", "(-0)3o3o3o3o3o3o3o3(-0)"]
@@ -237,7 +253,7 @@ def lengths(dice):
     yield from of("g", zeros + signs + ends)
     yield from of("mnr", ["(-1.5)3x", "(1e22)3(1e22)", "(-0)3(-0)"], "ok 2")
     chains = ["3", "4", "5/2", "2", "3 4", "5 3", "3 5/3", "9/4 8/3", "3 3 3", "7/2 3 5/3", "3 3 3 3 3 3 3 3"]
-    for _ in range(50):
+    for _ in range(count):
         edges = dice.pick(chains).split()
         yield from of("g", [finite_length(dice) + "".join(edge + finite_length(dice) for edge in edges)], "ok ")
 
@@ -312,15 +328,7 @@ def refused_texts():
 
 def unreduced(dice):
     """K2: "Matrix bits don't change, since both quotients round the same fraction": a text has the answers of the one in lowest terms."""
-    for text, lowest in {
-            "x6/2o": "x3o", "x9/3o": "x3o", "x8/2o6/2o": "x4o3o", "x10/4o10/2o": "x5/2o5o", "x6/2o10/4o": "x3o5/2o", "x14/6o": "x7/3o",
-            "x3221225472/1073741824o": "x3o", "x4294967295/1431655765o": "x3o", "x4294967295/2863311530o": "x3/2o",
-            "x4294967295/1717986918o3o": "x5/2o3o", "x7/4294967292/1840700268o": "x7/3o", "x4237481062/2618907323o": "x63245986/39088169o",
-            "x4294956175/2654428896o": "x75025/46368o", "x4292870399/4291428937o": "x65519/65497o",
-            "x2147483650/2147483648o": "x1073741825/1073741824o", "x4294964900/432350o": "x9934o", "x4294960110/432306o": "x9935o",
-            "x3973835236/400000o": "x993458809/100000o", "x3973835238/400000o": "x1986917619/200000o", "x8/2o8/2o": "x4o4o",
-            "x6/2o9/3o12/4*a": "x3o3o3*a", "x6/2*a8/2o": "x4o", "*b6/2*a xo": "x3o", "x4294967294/2147483647o6/2x": "x o3x",
-            "(-1.5)6/2(2)": "(-1.5)3(2)", "(inf)6/2o": "(inf)3o"}.items():
+    for text, lowest in UNREDUCED.items():
         yield from as_of(OF_TEXTS, text, lowest)
     for _ in range(40):
         num, den = chance.multiplied(dice)

@@ -17,6 +17,7 @@ use crate::{
     records,
     run::{self, Tally, Work},
     texts::Texts,
+    walls,
 };
 
 // Places of the tally.
@@ -34,6 +35,11 @@ const UNWISHED: usize = 83;
 const UNWISHED_SEEN: usize = 84;
 const WITH_THE_WISH: usize = 88;
 const FAULT_BEFORE: usize = 100;
+const WALLS: usize = 101;
+const WALLS_ALONE: usize = 102;
+const NO_WALLS: usize = 103;
+const MIRRORS_ALONE: usize = 104;
+const WALLS_INFINITE: usize = 105;
 
 const SEEN: [&str; 4] = ["reads it", "refuses otherwise", "panics", "takes no such bytes"];
 
@@ -69,6 +75,11 @@ fn labels() -> Vec<String> {
     let numbers = 1..FAULT_BEFORE - WITH_THE_WISH;
     labels.extend(numbers.map(|number| format!("  with 23, and with the wish with {number}")));
     labels.push("without the wish refused as with it, for a fault before an infinite literal".into());
+    labels.push("with walls".into());
+    labels.push("  with walls, but no mirrors".into());
+    labels.push("15, no walls".into());
+    labels.push("  no walls, but mirrors".into());
+    labels.push("16, an infinite length, of the generator over the walls".into());
     labels
 }
 
@@ -174,6 +185,8 @@ impl Beside<'_> {
         self.check(Call::Mirrors, asking, want, turned(window, 2))?;
         self.check(Call::Generator, asking, want, turned(window, 3))?;
         self.check(Call::Reflections, asking, want, turned(window, 4))?;
+        self.check(Call::Walls, asking, want, turned(window, 8))?;
+        self.check(Call::WallGenerator, asking, want, turned(window, 9))?;
         let len = short(RECORD, turned(window, 5)).unwrap_or(RECORD + window % SPARE);
         self.no_record(asking, len, answer, window)
     }
@@ -193,18 +206,22 @@ impl Beside<'_> {
         let answer = [0, nodes, 0, 0];
         let matrix = expected::matrix(&cox);
         self.check(Call::Matrix, asking, Want { answer, out: bits(&matrix) }, turned(window, 1))?;
-        match expected::mirrors(&cox) {
+        let mirrors = expected::mirrors(&cox);
+        match &mirrors {
             Ok(mirrors) => {
                 tally.count(MIRRORS);
-                let want = Want { answer, out: bits(&mirrors) };
+                let want = Want { answer, out: bits(mirrors) };
                 self.check(Call::Mirrors, asking, want, turned(window, 2))?;
                 self.fitting(asking, cd, &cox, window, tally)?;
             }
             Err(column) => {
                 tally.count(CROWDED);
-                self.crowded(asking, column, window)?;
+                self.crowded(asking, *column, window)?;
             }
         }
+        let walls = walls::walls(&cox);
+        count_walls(mirrors.is_ok(), walls.is_ok(), tally);
+        self.walls(asking, cd, &walls, window, tally)?;
         self.record(asking, cd, window, tally)
     }
 
@@ -237,6 +254,36 @@ impl Beside<'_> {
         self.check(Call::Mirrors, asking, want, turned(window, 2))?;
         self.check(Call::Generator, asking, want, turned(window, 3))?;
         self.check(Call::Reflections, asking, want, turned(window, 4))
+    }
+
+    /// The walls (ticket K7) and the generator over them.
+    fn walls(
+        &mut self,
+        asking: Asking,
+        cd: &Cd,
+        walls: &Result<[f64; SQUARE], usize>,
+        window: usize,
+        tally: &mut Tally,
+    ) -> Result<(), String> {
+        let answer = [0, cd.node_count(), 0, 0];
+        let refused = |number, field| Want { answer: [number, field, 0, 0], out: &[] };
+        let walls = match walls {
+            Ok(walls) => walls,
+            &Err(column) => {
+                self.check(Call::Walls, asking, refused(15, column), turned(window, 8))?;
+                return self.check(Call::WallGenerator, asking, refused(15, column), turned(window, 9));
+            }
+        };
+        self.check(Call::Walls, asking, Want { answer, out: bits(walls) }, turned(window, 8))?;
+        let generator = walls::generator(cd, walls);
+        let want = match &generator {
+            Ok(generator) => Want { answer, out: bits(generator) },
+            &Err(node) => {
+                tally.count(WALLS_INFINITE);
+                refused(16, node)
+            }
+        };
+        self.check(Call::WallGenerator, asking, want, turned(window, 9))
     }
 
     /// Of a share of the texts also the record: many alike nodes take the model of this program long.
@@ -272,29 +319,45 @@ impl Beside<'_> {
         // "Least sizes A 1, B 2, H 2, D 3, E 4; greatest 9."
         let least = [(b'A', 1), (b'B', 2), (b'D', 3), (b'E', 4), (b'H', 2)];
         let known = least.iter().any(|&(known, least)| known == letter && (least..=LIMIT).contains(&size));
+        let calls = [Call::FamilyMatrix, Call::FamilyMirrors, Call::FamilyWalls].map(|call| call(letter, size));
         if !known {
             // Where the Rust is asked, it panics, or gives a family of more than nine nodes.
             assert!(size > LIMIT || families::family(letter, size).is_none());
             let want = Want { answer: [17, 0, 0, 0], out: &[] };
-            self.port.check(Call::FamilyMatrix(letter, size), want, window)?;
-            return self.port.check(Call::FamilyMirrors(letter, size), want, window);
+            return calls.into_iter().try_for_each(|call| self.port.check(call, want, window));
         }
         let cox = families::family(letter, size).unwrap();
         let mut matrix = [0.0; SQUARE];
         // "past the size it goes on as that of a longer family"
         expected::put_entries(&mut matrix, &families::family(letter, LIMIT).unwrap());
         expected::put_entries(&mut matrix, &cox);
-        let answer = [0, size, 0, 0];
-        self.port.check(Call::FamilyMatrix(letter, size), Want { answer, out: bits(&matrix) }, window)?;
-        match expected::mirrors(&cox) {
-            Ok(mirrors) => {
-                self.port.check(Call::FamilyMirrors(letter, size), Want { answer, out: bits(&mirrors) }, window)
-            }
-            Err(column) => {
-                let want = Want { answer: [15, column, 0, 0], out: &[] };
-                self.port.check(Call::FamilyMirrors(letter, size), want, window)
-            }
+        self.square(calls[0], size, Ok(matrix), window)?;
+        self.square(calls[1], size, expected::mirrors(&cox), window)?;
+        self.square(calls[2], size, walls::walls(&cox), window)
+    }
+
+    /// A call about a family, which writes a matrix, mirrors or walls, or refuses with 15.
+    fn square(
+        &mut self,
+        call: Call,
+        size: usize,
+        due: Result<[f64; SQUARE], usize>,
+        window: usize,
+    ) -> Result<(), String> {
+        match due {
+            Ok(square) => self.port.check(call, Want { answer: [0, size, 0, 0], out: bits(&square) }, window),
+            Err(column) => self.port.check(call, Want { answer: [15, column, 0, 0], out: &[] }, window),
         }
+    }
+}
+
+/// Counts a diagram by whether it has mirrors and walls.
+fn count_walls(mirrors: bool, walls: bool, tally: &mut Tally) {
+    tally.count(if walls { WALLS } else { NO_WALLS });
+    match (mirrors, walls) {
+        (true, false) => tally.count(MIRRORS_ALONE),
+        (false, true) => tally.count(WALLS_ALONE),
+        _ => {}
     }
 }
 

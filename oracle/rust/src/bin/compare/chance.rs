@@ -1,4 +1,5 @@
-//! Figures by chance: any, those of finite groups, and figures that differ from a given one in one place.
+//! Figures by chance: any, those of finite groups, those of nearly infinite ones, and figures that differ from a given one in
+//! one place.
 
 use miratope::{
     cox::cd::Node,
@@ -30,6 +31,20 @@ pub fn any_node(dice: &mut Dice) -> Place {
         10 | 11 => SNUB_NODE,
         12 | 13 => Place::of(Node::from_char(char::from(dice.pick(RINGED_LETTERS))).unwrap()),
         _ => ringed(length(dice)),
+    }
+}
+
+/// A node of finite length: half of them by `any_node`, half ringed with a length from 0 to 10, one in eight of these negative.
+pub fn finite_node(dice: &mut Dice) -> Place {
+    if dice.one_in(2) {
+        let value = dice.below(1_000_000) as f64 / 1e5;
+        return ringed(if dice.one_in(8) { -value } else { value });
+    }
+    loop {
+        let node = any_node(dice);
+        if f64::from_bits(node.bits).is_finite() {
+            return node;
+        }
     }
 }
 
@@ -183,6 +198,75 @@ fn component(dice: &mut Dice, figure: &mut Figure, most: usize) {
             _ => {}
         }
     }
+}
+
+/// Chains of infinite groups without proper parts that are infinite too; those that begin and end with 4 apart.
+const AFFINE_CHAINS: [&[u32]; 5] = [&[6, 3], &[3, 6], &[4, 4], &[3, 4, 3, 3], &[3, 3, 4, 3]];
+
+/// Arms of three or four on one node, of infinite groups likewise, all their edges 3.
+const AFFINE_ARMS: [&[usize]; 4] = [&[1, 1, 1, 1], &[2, 2, 2], &[3, 3, 1], &[5, 2, 1]];
+
+/// A cycle, a chain or a star whose group would be infinite, but for one edge, which has a fraction less by a ten-billionth of
+/// it to a third, or two nodes: walls that are crowded as much or little. All nodes are unringed.
+pub fn crowded(dice: &mut Dice) -> Figure {
+    let edges: Vec<(usize, usize, u32)> = match dice.below(8) {
+        0 => return polygon(dice),
+        1 | 2 => {
+            let count = dice.within(3, LIMIT);
+            (0..count).map(|i| (i, (i + 1) % count, 3)).collect()
+        }
+        3 | 4 => {
+            let mut chain = vec![3; dice.within(2, LIMIT - 1)];
+            (chain[0], *chain.last_mut().unwrap()) = (4, 4);
+            joined_up(&chain)
+        }
+        5 => joined_up(dice.pick(&AFFINE_CHAINS)),
+        _ => arms(dice.pick(&AFFINE_ARMS)),
+    };
+    let count = 1 + edges.iter().map(|&(a, b, _)| a.max(b)).max().unwrap();
+    let mut figure = Figure::new(&[EMPTY; LIMIT][..count]);
+    let less = dice.below(edges.len());
+    for (i, &(a, b, num)) in edges.iter().enumerate() {
+        figure.join(a, b, if i == less { less_than(dice, num) } else { Fraction { num, den: 1 } });
+    }
+    figure
+}
+
+/// Two nodes, of a fraction from 2 to where there are no walls.
+fn polygon(dice: &mut Dice) -> Figure {
+    let mut figure = Figure::new(&[EMPTY; 2]);
+    let entry = 10_f64.powf(0.31 + 3.69 * part(dice));
+    let den = dice.within(1, 400_000) as u32;
+    figure.join(0, 1, Fraction { num: (entry * f64::from(den)) as u32 + 1, den }.lowest());
+    figure
+}
+
+fn joined_up(chain: &[u32]) -> Vec<(usize, usize, u32)> {
+    chain.iter().enumerate().map(|(i, &num)| (i, i + 1, num)).collect()
+}
+
+/// Node 0, and from there each arm outwards.
+fn arms(lengths: &[usize]) -> Vec<(usize, usize, u32)> {
+    let mut edges = Vec::new();
+    for &length in lengths {
+        for i in 0..length {
+            let next = edges.len() + 1;
+            edges.push((if i == 0 { 0 } else { next - 1 }, next, 3));
+        }
+    }
+    edges
+}
+
+/// A fraction of the number, less by a part of it that is as likely to have any one size as any other.
+fn less_than(dice: &mut Dice, num: u32) -> Fraction {
+    let entry = f64::from(num) * (1.0 - 10_f64.powf(-0.5 - 9.5 * part(dice)));
+    let den = dice.within(1_000_000, 700_000_000) as u32;
+    Fraction { num: (entry * f64::from(den)) as u32, den }.lowest()
+}
+
+/// A number from 0 to 1.
+fn part(dice: &mut Dice) -> f64 {
+    dice.below(1 << 31) as f64 / f64::from(1_u32 << 31)
 }
 
 fn branch(figure: &mut Figure, start: usize, at: usize) {

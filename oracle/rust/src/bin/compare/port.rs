@@ -64,9 +64,29 @@ extern "C" {
         out_len: usize,
         answer: *mut usize,
     ) -> usize;
+    fn lexicon_walls(
+        text: *const u8,
+        text_len: usize,
+        wish: usize,
+        out: *mut f64,
+        out_len: usize,
+        answer: *mut usize,
+    ) -> usize;
+    fn lexicon_wall_generator(
+        text: *const u8,
+        text_len: usize,
+        wish: usize,
+        out: *mut f64,
+        out_len: usize,
+        answer: *mut usize,
+    ) -> usize;
     fn lexicon_family_matrix(letter: u8, size: usize, out: *mut f64, out_len: usize, answer: *mut usize) -> usize;
     fn lexicon_family_mirrors(letter: u8, size: usize, out: *mut f64, out_len: usize, answer: *mut usize) -> usize;
+    fn lexicon_family_walls(letter: u8, size: usize, out: *mut f64, out_len: usize, answer: *mut usize) -> usize;
 }
+
+/// A call that takes a text and writes doubles.
+type Doubles = unsafe extern "C" fn(*const u8, usize, usize, *mut f64, usize, *mut usize) -> usize;
 
 /// A text, and the wish for infinite lengths (ticket K6) that it is read with: 0 is none, any other number is one.
 #[derive(Clone, Copy, PartialEq)]
@@ -107,8 +127,11 @@ pub enum Call<'a> {
     Mirrors(Asked<'a>),
     Generator(Asked<'a>),
     Reflections(Asked<'a>),
+    Walls(Asked<'a>),
+    WallGenerator(Asked<'a>),
     FamilyMatrix(u8, usize),
     FamilyMirrors(u8, usize),
+    FamilyWalls(u8, usize),
 }
 
 impl Call<'_> {
@@ -122,8 +145,11 @@ impl Call<'_> {
             Self::Mirrors(_) => ("lexicon_mirrors", SQUARE),
             Self::Generator(_) => ("lexicon_generator", GENERATOR),
             Self::Reflections(_) => ("lexicon_reflections", REFLECTIONS),
+            Self::Walls(_) => ("lexicon_walls", SQUARE),
+            Self::WallGenerator(_) => ("lexicon_wall_generator", GENERATOR),
             Self::FamilyMatrix(..) => ("lexicon_family_matrix", SQUARE),
             Self::FamilyMirrors(..) => ("lexicon_family_mirrors", SQUARE),
+            Self::FamilyWalls(..) => ("lexicon_family_walls", SQUARE),
         }
     }
 }
@@ -212,24 +238,21 @@ impl Port {
         let doubles = words.cast::<f64>();
         // Every pointer has as many elements behind it as the length beside it says; a double is any 64 bits.
         self.returned = unsafe {
+            let of_text =
+                |call: Doubles, Asked { text, wish }: Asked| call(input(text), text.len(), wish, doubles, len, answer);
             match call {
                 Call::Record(asked) => return self.write_record(asked, len, window),
                 Call::Read(Asked { text, wish }) => lexicon_read(input(text), text.len(), wish, words, len, answer),
                 Call::ReadRecord(bytes) => lexicon_read_record(input(bytes), bytes.len(), words, len, answer),
-                Call::Matrix(Asked { text, wish }) => {
-                    lexicon_matrix(input(text), text.len(), wish, doubles, len, answer)
-                }
-                Call::Mirrors(Asked { text, wish }) => {
-                    lexicon_mirrors(input(text), text.len(), wish, doubles, len, answer)
-                }
-                Call::Generator(Asked { text, wish }) => {
-                    lexicon_generator(input(text), text.len(), wish, doubles, len, answer)
-                }
-                Call::Reflections(Asked { text, wish }) => {
-                    lexicon_reflections(input(text), text.len(), wish, doubles, len, answer)
-                }
+                Call::Matrix(asked) => of_text(lexicon_matrix, asked),
+                Call::Mirrors(asked) => of_text(lexicon_mirrors, asked),
+                Call::Generator(asked) => of_text(lexicon_generator, asked),
+                Call::Reflections(asked) => of_text(lexicon_reflections, asked),
+                Call::Walls(asked) => of_text(lexicon_walls, asked),
+                Call::WallGenerator(asked) => of_text(lexicon_wall_generator, asked),
                 Call::FamilyMatrix(letter, size) => lexicon_family_matrix(letter, size, doubles, len, answer),
                 Call::FamilyMirrors(letter, size) => lexicon_family_mirrors(letter, size, doubles, len, answer),
+                Call::FamilyWalls(letter, size) => lexicon_family_walls(letter, size, doubles, len, answer),
             }
         };
     }
@@ -261,6 +284,20 @@ impl Port {
     pub fn record(&self) -> ([u8; RECORD], Numbering) {
         let bytes = self.bytes.lent()[..RECORD].try_into().unwrap();
         (bytes, self.numbering.lent().try_into().unwrap())
+    }
+
+    /// Makes a call that writes doubles about a text that reading accepts: what it wrote, or the column of refusal 15. An error
+    /// says how it misbehaved.
+    pub fn doubles(&mut self, call: Call, nodes: usize, window: usize) -> Result<Result<Vec<f64>, usize>, String> {
+        let (name, needs) = call.shape();
+        self.call(call, needs + window % SPARE, window);
+        let (answer, out) = match self.answer.lent()[..2] {
+            [15, column] if column < nodes => ([15, column, 0, 0], None),
+            _ => ([0, nodes, 0, 0], Some(&self.words.lent()[..needs])),
+        };
+        let what = self.departs(&Want { answer, out: out.unwrap_or(&[]) });
+        what.map_or(Ok(()), |what| Err(format!("{name}: {what}")))?;
+        Ok(out.map(|words| words.iter().map(|&word| f64::from_bits(word)).collect()).ok_or(answer[1]))
     }
 
     /// How the last call, any but `Record`, departs from what it must do; `None` if it doesn't.
