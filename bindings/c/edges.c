@@ -12,6 +12,7 @@
 #define PLUS_INFINITY UINT64_C(0x7ff0000000000000)
 #define MINUS_INFINITY UINT64_C(0xfff0000000000000)
 #define MINUS_ZERO UINT64_C(0x8000000000000000)
+#define ONE UINT64_C(0x3ff0000000000000)
 #define ANSWER(...) ((const size_t[LEXICON_ANSWER]){__VA_ARGS__}) // with zeros behind the numbers given
 
 enum {
@@ -56,16 +57,21 @@ static const struct call write_record = {"lexicon_write_record", sizeof(uint8_t)
 static const struct call read_record = {"lexicon_read_record", sizeof(uint64_t), LEXICON_DIAGRAM, NULL, NULL, NULL};
 static const struct call matrix = {"lexicon_matrix", sizeof(double), LEXICON_SQUARE, .to_doubles = lexicon_matrix};
 static const struct call mirrors = {"lexicon_mirrors", sizeof(double), LEXICON_SQUARE, .to_doubles = lexicon_mirrors};
+static const struct call walls = {"lexicon_walls", sizeof(double), LEXICON_SQUARE, .to_doubles = lexicon_walls};
 static const struct call generator = {"lexicon_generator", sizeof(double), LEXICON_GENERATOR, .to_doubles = lexicon_generator};
+static const struct call wall_generator = {"lexicon_wall_generator", sizeof(double), LEXICON_GENERATOR, .to_doubles = lexicon_wall_generator};
 static const struct call reflections = {"lexicon_reflections", sizeof(double), LEXICON_REFLECTIONS, .to_doubles = lexicon_reflections};
 static const struct call family_matrix = {"lexicon_family_matrix", sizeof(double), LEXICON_SQUARE, .of_family = lexicon_family_matrix};
 static const struct call family_mirrors = {"lexicon_family_mirrors", sizeof(double), LEXICON_SQUARE, .of_family = lexicon_family_mirrors};
+static const struct call family_walls = {"lexicon_family_walls", sizeof(double), LEXICON_SQUARE, .of_family = lexicon_family_walls};
 static const struct call shelf_check = {"lexicon_shelf_check", sizeof(uint8_t), 0, NULL, NULL, NULL};
 static const struct call shelf_find = {"lexicon_shelf_find", sizeof(uint8_t), 0, .in_file = lexicon_shelf_find};
 static const struct call shelf_bisect = {"lexicon_shelf_bisect", sizeof(uint8_t), 0, .in_file = lexicon_shelf_bisect};
 static const struct call shelf_add = {"lexicon_shelf_add", sizeof(uint8_t), LEXICON_RECORD, NULL, NULL, NULL};
 
-static const struct call *const of_texts[] = {&read_text, &write_record, &matrix, &mirrors, &generator, &reflections};
+static const struct call *const of_texts[] = {&read_text, &write_record, &matrix, &mirrors, &walls, &generator, &wall_generator, &reflections};
+static const struct call *const over_mirrors[] = {&mirrors, &generator, &reflections};
+static const struct call *const over_walls[] = {&walls, &wall_generator};
 static const struct call *const of_records_and_files[] = {&shelf_find, &shelf_bisect, &shelf_add};
 
 // ---- one call, with all that it may and may not change
@@ -237,7 +243,7 @@ static void expect_refused_text(struct input in, const size_t *wanted)
         expect_refusal(of_texts[i], in, wanted);
 }
 
-// An accepted text whose mirrors exist and whose lengths are finite.
+// An accepted text whose mirrors and walls exist and whose lengths are finite.
 static void expect_accepted_text(struct input in, size_t nodes, size_t edges, bool minimal)
 {
     expect_answer(&read_text, in, ANSWER(0, nodes, edges, minimal));
@@ -298,16 +304,35 @@ static void refused_texts(void)
     }
 }
 
-// What only the geometers' calls refuse. 15 comes before 16.
+// The same answer, or the same refusal, of several calls.
+static void expect_of_all(const struct call *const *calls, size_t count, struct input in, const size_t *wanted)
+{
+    for (size_t i = 0; i < count; i++)
+        if (wanted[0] == 0)
+            expect_answer(calls[i], in, wanted);
+        else
+            expect_refusal(calls[i], in, wanted);
+}
+
+// What only the geometers' calls refuse. 15 comes before 16. A cycle may have mirrors and no walls, or walls and no mirrors.
 static void refused_geometry(void)
 {
-    static const struct call *const need_mirrors[] = {&mirrors, &generator, &reflections};
-    for (size_t i = 0; i < LEN(need_mirrors); i++) {
-        expect_refusal(need_mirrors[i], text("x4o4o"), ANSWER(15, 2));
-        expect_refusal(need_mirrors[i], wished("(inf)4o4o", 1), ANSWER(15, 2));
+    static const struct {
+        const char *text;
+        size_t mirrors[LEXICON_ANSWER], walls[LEXICON_ANSWER];
+    } refused[] = {
+        {"x4o4o", {15, 2}, {15, 2}}, {"(inf)4o4o", {15, 2}, {15, 2}}, {"o3o3o3*a", {0, 3}, {15, 2}}, {"o5/4o5/4o5/4*a", {15, 2}, {0, 3}},
+    };
+    for (size_t i = 0; i < LEN(refused); i++) {
+        struct input in = wished(refused[i].text, 1);
+        expect_of_all(over_mirrors, LEN(over_mirrors), in, refused[i].mirrors);
+        expect_of_all(over_walls, LEN(over_walls), in, refused[i].walls);
+        expect_answer(&matrix, in, ANSWER(0, 3));
     }
+    expect_refusal(&generator, wished("(inf)3o3o3*a", 1), ANSWER(16, 0));
+    expect_refusal(&wall_generator, wished("(inf)3o3o3*a", 1), ANSWER(15, 2));
     expect_refusal(&generator, wished("o3(-Infinity)3(inf)", 1), ANSWER(16, 1));
-    expect_answer(&matrix, text("x4o4o"), ANSWER(0, 3));
+    expect_refusal(&wall_generator, wished("o3(-Infinity)3(inf)", 1), ANSWER(16, 1));
 }
 
 // Texts refused either way. 23 comes as reading meets the literal: before 10, which a faulty node does not get, and before 8 and 11.
@@ -346,10 +371,12 @@ static void expect_infinite(const char *typed, const char *finite, size_t nodes,
     struct input in = wished(typed, wish);
     expect_refused_text(text(typed), ANSWER(23, strlen(typed) - 2));
     expect_refusal(&generator, in, ANSWER(16, nodes - 1));
+    expect_refusal(&wall_generator, in, ANSWER(16, nodes - 1));
     expect_same(&read_text, wished(typed, 1), in, ANSWER(0, nodes, nodes - 1, true));
     expect_same(&write_record, wished(typed, 1), in, ANSWER(0, nodes));
     expect_same(&matrix, text(finite), in, ANSWER(0, nodes));
     expect_same(&mirrors, text(finite), in, ANSWER(0, nodes));
+    expect_same(&walls, text(finite), in, ANSWER(0, nodes));
     expect_same(&reflections, text(finite), in, ANSWER(0, nodes));
 }
 
@@ -900,21 +927,29 @@ static size_t least_size(unsigned letter)
     }
 }
 
+// The mirrors of a family that there is, or its walls.
+static void expect_family_normals(const struct call *call, struct input in)
+{
+    if (in.letter == 'H' && in.size > 4) // infinite groups
+        expect_refusal(call, in, ANSWER(15, 4));
+    else if (in.letter == 'E' && in.size == 9)
+        expect_refusal(call, in, ANSWER(15, 8));
+    else
+        expect_answer(call, in, ANSWER(0, in.size));
+}
+
 static void one_family(unsigned letter, size_t size)
 {
     struct input in = family(letter, size);
     if (size < least_size(letter) || size > LEXICON_LIMIT) {
         expect_refusal(&family_matrix, in, ANSWER(17));
         expect_refusal(&family_mirrors, in, ANSWER(17));
+        expect_refusal(&family_walls, in, ANSWER(17));
         return;
     }
     expect_answer(&family_matrix, in, ANSWER(0, size));
-    if (letter == 'H' && size > 4) // infinite groups
-        expect_refusal(&family_mirrors, in, ANSWER(15, 4));
-    else if (letter == 'E' && size == 9)
-        expect_refusal(&family_mirrors, in, ANSWER(15, 8));
-    else
-        expect_answer(&family_mirrors, in, ANSWER(0, size));
+    expect_family_normals(&family_mirrors, in);
+    expect_family_normals(&family_walls, in);
 }
 
 static void families(void)
@@ -938,7 +973,7 @@ static void past_one_node(void)
     const uint64_t *places = out;
     const double *doubles = out;
     run_once(&read_text, text("x"));
-    check(places[0] == 2 && places[1] == UINT64_C(0x3ff0000000000000), "its node is another");
+    check(places[0] == 2 && places[1] == ONE, "its node is another");
     for (size_t i = 1; i < LEXICON_LIMIT; i++)
         check(places[2 * i] == 1 && places[2 * i + 1] == 0, "past its node there is another place");
     check(filled(places + 18, 0, (LEXICON_DIAGRAM - 18) * sizeof *places), "it has an edge");
@@ -948,14 +983,77 @@ static void past_one_node(void)
         check(doubles[i] == (i % 10 == 0 ? 1 : 2), "past its node it has another entry");
     run_once(&mirrors, text("x"));
     check(doubles[0] == 1 && filled(doubles + 1, 0, (LEXICON_SQUARE - 1) * sizeof *doubles), "past its node it has another mirror");
+    run_once(&walls, text("x"));
+    check(doubles[0] == 1 && filled(doubles + 1, 0, (LEXICON_SQUARE - 1) * sizeof *doubles), "past its node it has another wall");
     run_once(&generator, text("x"));
     check(doubles[0] == 1 && filled(doubles + 1, 0, 8 * sizeof *doubles) && doubles[9] == 1, "its generator is another");
+    run_once(&wall_generator, text("x"));
+    check(doubles[0] == 0.5 && filled(doubles + 1, 0, 8 * sizeof *doubles) && doubles[9] == 0.5, "its generator is another");
 
     run_once(&family_matrix, family('A', 1));
     for (size_t i = 0; i < LEXICON_SQUARE; i++) {
         size_t column = i / 9, row = i % 9;
         bool joined = column + 1 == row || row + 1 == column;
         check(doubles[i] == (column == row ? 1 : joined ? 3 : 2), "it does not go on as a longer family");
+    }
+}
+
+// ---- walls
+
+// The negated cosine of a pair that nothing joins is the double -0.0.
+static void walls_at_right_angles(void)
+{
+    static const char *const typed[] = {"x2x", "xx"};
+    static const uint64_t wanted[LEXICON_SQUARE] = {ONE, [9] = MINUS_ZERO, [10] = ONE};
+    for (size_t i = 0; i < LEN(typed); i++) {
+        expect(&walls, text(typed[i]), LEXICON_SQUARE, ANSWER(0, 2));
+        check(memcmp(out, wanted, sizeof wanted) == 0, "its walls are others");
+    }
+}
+
+// Of no nodes, two edges, a square, a hexagon, and an octahedron typed from either end.
+static void wall_radii(void)
+{
+    static const struct {
+        const char *text;
+        size_t nodes;
+        double radius;
+    } known[] = {
+        {"*a", 0, 0}, {"u", 1, 1}, {"(-1)", 1, 0.5}, {"x4o", 2, 0.7071067811865476}, {"x3x", 2, 1},
+        {"x3o4o", 3, 0.7071067811865477}, {"o4o3x", 3, 0.7071067811865478},
+    };
+    const double *doubles = out;
+    for (size_t i = 0; i < LEN(known); i++) {
+        expect(&wall_generator, text(known[i].text), LEXICON_GENERATOR, ANSWER(0, known[i].nodes));
+        check(doubles[9] == known[i].radius, "its radius is another");
+    }
+    expect(&wall_generator, text("x3x"), LEXICON_GENERATOR, ANSWER(0, 2));
+    check(doubles[0] == 0.5 && doubles[1] == 0.8660254037844387, "its generator is another");
+}
+
+static void walls_of_no_nodes(void)
+{
+    for (size_t i = 0; i < LEN(over_walls); i++) {
+        const struct call *call = over_walls[i];
+        expect(call, text("*a"), call->writes, ANSWER(0, 0));
+        check(filled(out, 0, call->writes * call->element), "it has a wall or a point");
+    }
+}
+
+// A family's walls are those of the text that spells its matrix.
+static void family_walls_are_of_texts(void)
+{
+    static const struct {
+        unsigned letter;
+        size_t size;
+        const char *text;
+    } spelled[] = {{'A', 1, "o"}, {'A', 3, "o3o3o"}, {'B', 3, "x4o3o"}, {'D', 4, "o2o3o3o *a3*c"}, {'E', 6, "o2o3o3o3o3o *a3*d"}, {'H', 4, "o5o3o3o"}};
+    uint64_t of_text[LEXICON_SQUARE];
+    for (size_t i = 0; i < LEN(spelled); i++) {
+        expect(&walls, text(spelled[i].text), LEXICON_SQUARE, ANSWER(0, spelled[i].size));
+        memcpy(of_text, out, sizeof of_text);
+        expect(&family_walls, family(spelled[i].letter, spelled[i].size), LEXICON_SQUARE, ANSWER(0, spelled[i].size));
+        check(memcmp(of_text, out, sizeof of_text) == 0, "its walls are others than its text's");
     }
 }
 
@@ -992,6 +1090,10 @@ int main(void)
     many_places();
     families();
     past_one_node();
+    walls_at_right_angles();
+    wall_radii();
+    walls_of_no_nodes();
+    family_walls_are_of_texts();
     printf("edges: %lu checks\n", checks);
     free(out);
     free(again);

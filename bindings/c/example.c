@@ -98,6 +98,7 @@ static void print_record(struct article *article)
     printf("\n");
 }
 
+// miratope-core's mirrors. Coxeter's, to which the radius that is printed belongs, are lexicon_walls.
 static void print_mirrors(const char *text)
 {
     double mirrors[LEXICON_SQUARE];
@@ -114,15 +115,24 @@ static void print_mirrors(const char *text)
     }
 }
 
-// miratope-core's generator, which depends on the order of the nodes: texts of one figure may have different radii.
-static void print_radius(const char *text)
+typedef size_t to_generator(const uint8_t *text, size_t text_len, size_t wish, double *out, size_t out_len, size_t answer[LEXICON_ANSWER]);
+
+static void print_radius(const char *name, to_generator *call, const char *text)
 {
     double generator[LEXICON_GENERATOR];
     size_t answer[LEXICON_ANSWER];
-    if (lexicon_generator(bytes(text), strlen(text), wish, generator, LEXICON_GENERATOR, answer) != 0)
-        print_refusal("generator", answer);
+    if (call(bytes(text), strlen(text), wish, generator, LEXICON_GENERATOR, answer) != 0)
+        print_refusal(name, answer);
     else
-        printf("  radius: %.6f\n", generator[9]);
+        printf("  %s: %.6f\n", name, generator[9]);
+}
+
+// An article has the first: it is the figure's circumradius, and the same for all texts of the figure, up to rounding. The second, for comparisons with
+// miratope-core, depends on the order of the nodes.
+static void print_radii(const char *text)
+{
+    print_radius("radius", lexicon_wall_generator, text);
+    print_radius("radius as miratope-core has it", lexicon_generator, text);
 }
 
 // Adds an article's record. The longer file is written to other memory, since no record is added in place. A refusal leaves the file as it was: with 20 the
@@ -254,7 +264,7 @@ int main(int argc, char **argv)
         article->text = texts[i];
         print_record(article);
         print_mirrors(texts[i]);
-        print_radius(texts[i]);
+        print_radii(texts[i]);
     }
     bool filed = print_shelf(articles, accepted);
     print_same(articles, accepted);

@@ -44,10 +44,12 @@ ringed node, s a snub one, o an unringed one, with lengths other than 1 in paren
 nodes a, b, c... are read along the line, then branch by branch; where they were typed in
 another order, their names are shown.
 
-With --geometry, decimals are the shortest that give the double back. The generator and its
-radius depend on the order of typing: those of x3o4o and o4o3x differ. Where there are no
-mirrors or no generator, the refusal is told in their place, and the status is 0, as nothing is
-wrong with the text.
+With --geometry, decimals are the shortest that give the double back. The walls are mirrors as
+Coxeter has them, and the radius of the generator over them is the one to print: the circumradius
+of the figure whose edges have these lengths, the same for every spelling but for the last
+digits. The generator and radius as miratope-core has them depend on the order of typing. Where
+there are no walls, no mirrors or no generator, the refusal is told in their place, and the status
+is 0, as nothing is wrong with the text.
 
 Exit status: 0, 1 if the text is refused, 2 for a failure.
 
@@ -68,7 +70,13 @@ Example:
     a-b: 3
     b-c: 5/2
     b-d: 3
-  minimal: yes, each component has a ringed node";
+  minimal: yes, each component has a ringed node
+  $ lexicon show --geometry x3o4o | grep ^radius
+  radius: 0.7071067811865477
+  radius as miratope-core has it: 1
+  $ lexicon show --geometry o4o3x | grep ^radius
+  radius: 0.7071067811865478
+  radius as miratope-core has it: 2.2360679774997907";
 
 const DRAW: &str = "\
 A ringed node is a dot with a ring, an unringed one a dot, a snub one an open circle. A length
@@ -214,7 +222,7 @@ fn show() -> Command {
         .arg(text("TEXT", "A text"))
         .arg(flag(
             "geometry",
-            "Show the matrix, the mirrors, the generator and its radius too",
+            "Show the matrix, the walls, the generator and its radius too, and miratope-core's",
         ))
         .arg(
             flag(

@@ -1,8 +1,9 @@
-//! `lexicon show --geometry`: the matrix, the mirrors, the generator and its radius.
+//! `lexicon show --geometry`: the matrix, then the walls with their generator and its radius, then
+//! the mirrors with theirs, as miratope-core has them.
 
 use std::io::{self, Write};
 
-use lexicon::{Cd, CdError};
+use lexicon::{Cd, CdError, CdResult, Generator, Matrix};
 
 use crate::names::{decimal, name};
 
@@ -32,48 +33,109 @@ impl Form {
     }
 }
 
-/// Writes all of a diagram's geometry. Where there is none, it is said why.
-pub fn show(cd: &Cd, form: Form, out: &mut impl Write) -> io::Result<()> {
-    let nodes = cd.node_count();
-    let names: Vec<_> = (0..nodes).map(|node| name(node).to_string()).collect();
-    let coordinates: Vec<_> = (1..=nodes).map(|row| row.to_string()).collect();
+/// What mirrors, the generator over them and its radius are called.
+struct Words {
+    mirror: &'static str,
+    mirrors: &'static str,
+    generator: &'static str,
+    /// What else is to be known of the generator.
+    point: &'static str,
+    radius: &'static str,
+}
 
+/// Coxeter's mirrors, whose generator has the radius that an editor prints.
+const WALLS: Words = Words {
+    mirror: "wall",
+    mirrors: "walls",
+    generator: "generator",
+    point: "at half each length from its wall",
+    radius: "radius",
+};
+
+const MIRRORS: Words = Words {
+    mirror: "mirror",
+    mirrors: "mirrors as miratope-core has them",
+    generator: "generator as miratope-core has it",
+    point: "which depends on the order of typing, as its radius does",
+    radius: "radius as miratope-core has it",
+};
+
+/// Writes all of a diagram's geometry.
+pub fn show(cd: &Cd, form: Form, out: &mut impl Write) -> io::Result<()> {
     let cox = cd.cox();
+    let names = node_names(cd.node_count());
     writeln!(out, "matrix:")?;
     let cells = table(&names, &names, |i, j| form.write(cox[(i, j)]));
     write_table(out, form, &cells)?;
+    show_mirrors(&WALLS, cox.walls(), form, out)?;
+    show_generator(&WALLS, cd.wall_generator(), form, out)?;
+    show_mirrors(&MIRRORS, cox.normals(), form, out)?;
+    show_generator(&MIRRORS, cd.generator(), form, out)
+}
 
-    match cox.normals() {
+/// Writes mirrors. Where there are none, it is said why.
+fn show_mirrors(
+    words: &Words,
+    mirrors: CdResult<Matrix>,
+    form: Form,
+    out: &mut impl Write,
+) -> io::Result<()> {
+    match mirrors {
         Ok(mirrors) => {
-            writeln!(out, "mirrors, the columns their unit normals:")?;
-            let cells = table(&names, &coordinates, |i, j| form.write(mirrors[(i, j)]));
-            write_table(out, form, &cells)?;
-        }
-        Err(refusal) => writeln!(out, "mirrors: {}", lacking(&refusal))?,
-    }
-    match cd.generator() {
-        Ok(point) => {
-            writeln!(
-                out,
-                "generator, which depends on the order of typing, as its radius does:"
-            )?;
-            let cells = table(&[], &coordinates, |i, _| form.write(point.coordinates()[i]));
-            write_table(out, form, &cells)?;
-            writeln!(out, "radius: {}", form.write(point.radius()))
+            writeln!(out, "{}, the columns their unit normals:", words.mirrors)?;
+            let (columns, rows) = (node_names(mirrors.dim()), coordinate_names(mirrors.dim()));
+            let cells = table(&columns, &rows, |i, j| form.write(mirrors[(i, j)]));
+            write_table(out, form, &cells)
         }
         Err(refusal) => {
-            let why = lacking(&refusal);
-            writeln!(out, "generator: {why}\nradius: {why}")
+            let why = lacking(words, &refusal);
+            writeln!(out, "{}: {why}", words.mirrors)
         }
     }
 }
 
-/// Why there is none.
-fn lacking(refusal: &CdError) -> String {
-    let why = match *refusal {
-        CdError::Crowded { column } => {
-            format!("mirror {} does not fit in spherical space", name(column))
+/// Writes a generator and its radius. Where there is none, it is said why.
+fn show_generator(
+    words: &Words,
+    point: CdResult<Generator>,
+    form: Form,
+    out: &mut impl Write,
+) -> io::Result<()> {
+    let &Words {
+        generator, radius, ..
+    } = words;
+    match point {
+        Ok(point) => {
+            writeln!(out, "{generator}, {}:", words.point)?;
+            let coordinates = point.coordinates();
+            let rows = coordinate_names(coordinates.len());
+            let cells = table(&[], &rows, |i, _| form.write(coordinates[i]));
+            write_table(out, form, &cells)?;
+            writeln!(out, "{radius}: {}", form.write(point.radius()))
         }
+        Err(refusal) => {
+            let why = lacking(words, &refusal);
+            writeln!(out, "{generator}: {why}\n{radius}: {why}")
+        }
+    }
+}
+
+fn node_names(nodes: usize) -> Vec<String> {
+    (0..nodes).map(|node| name(node).to_string()).collect()
+}
+
+fn coordinate_names(coordinates: usize) -> Vec<String> {
+    (1..=coordinates).map(|row| row.to_string()).collect()
+}
+
+/// Why there is none.
+fn lacking(words: &Words, refusal: &CdError) -> String {
+    let why = match *refusal {
+        CdError::Crowded { column } => format!(
+            "{} {} does not fit in spherical space",
+            words.mirror,
+            name(column)
+        ),
         CdError::Infinite { node } => format!("the length of node {} is infinite", name(node)),
         ref other => other.to_string(),
     };

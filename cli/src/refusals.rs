@@ -69,7 +69,7 @@ pub fn advice(refusal: &CdError) -> &'static str {
         CdError::ShelfLength => "Take the file from a copy: a shelf has 370 bytes a place.",
         CdError::ShelfPlace { .. } => "Take the file from a copy, or make it anew with `lexicon shelf make`.",
         CdError::OnShelf { .. } => "Look for the article that has this figure.",
-        CdError::Crowded { .. } => "Such a figure has no mirrors in spherical space; nothing is wrong with its text.",
+        CdError::Crowded { .. } => "Such a figure has no mirrors, or no walls, in spherical space; nothing is wrong with its text.",
         CdError::Infinite { .. } => "A figure with an infinite length has no generator.",
         _ => "File the figure's text again.",
     }

@@ -3,7 +3,7 @@
 use std::{fmt, str::FromStr};
 
 use crate::{
-    ffi::{self, LIMIT, SQUARE},
+    ffi::{self, Written, GENERATOR, LIMIT, SQUARE},
     CdError, CdResult, Cox, Diagram, Matrix, Node, Record, StoredEdge,
 };
 
@@ -232,7 +232,8 @@ impl Cd {
     /// [`Cox::normals`], times x, is [`Cd::node_vector`].
     ///
     /// It depends on the order of the nodes. Two texts of one figure may have different points, and
-    /// different radii: those of `x3o4o` and `o4o3x` are 1 and √5.
+    /// different radii: those of `x3o4o` and `o4o3x` are 1 and √5. An editor prints the radius of
+    /// [`Cd::wall_generator`]; this one is for comparisons with miratope-core.
     ///
     /// # Errors
     ///
@@ -251,14 +252,47 @@ impl Cd {
     /// # Ok::<(), CdError>(())
     /// ```
     pub fn generator(&self) -> CdResult<Generator> {
-        let (doubles, [nodes, ..]) = ffi::generator(self.text.as_bytes(), self.wish)?;
-        Ok(Generator {
-            coordinates: doubles[..nodes].to_vec(),
-            radius: doubles[LIMIT],
-        })
+        Generator::from_written(ffi::generator(self.text.as_bytes(), self.wish))
     }
 
-    /// The radius of [`Cd::generator`], which depends on the order of the nodes as that does.
+    /// The generator point over the walls: its distance from the wall of each node, of those that
+    /// [`Cox::walls`] has, is half the node's length.
+    ///
+    /// An editor prints the radius of this one. It is the circumradius of the figure whose edges have
+    /// the lengths of the nodes, and the same for every text of the figure, up to rounding. That of
+    /// [`Cd::generator`] is miratope-core's and depends on the order in which the nodes were typed.
+    ///
+    /// [`Cd::reflections`] are in miratope-core's mirrors, not in the walls: they don't send this
+    /// point to the other vertices of the figure.
+    ///
+    /// # Errors
+    ///
+    /// [`CdError::Crowded`] if the walls don't exist, else [`CdError::Infinite`] if a length is
+    /// infinite, which only [`Cd::parse_with_infinite`] takes.
+    ///
+    /// ```
+    /// use lexicon::{Cd, CdError};
+    ///
+    /// let edge = Cd::parse("x")?.wall_generator()?;
+    /// assert_eq!((edge.coordinates(), edge.radius()), (&[0.5][..], 0.5));
+    ///
+    /// // An octahedron, typed from either end, with miratope-core's radii.
+    /// for (text, radius) in [("x3o4o", 1.0), ("o4o3x", 5.0_f64.sqrt())] {
+    ///     let octahedron = Cd::parse(text)?;
+    ///     assert!((octahedron.wall_generator()?.radius() - 0.5_f64.sqrt()).abs() < 1e-12);
+    ///     assert!((octahedron.generator()?.radius() - radius).abs() < 1e-12);
+    /// }
+    ///
+    /// let tiling = Cd::parse("x3o3o3*a")?;
+    /// assert_eq!(tiling.wall_generator().unwrap_err(), CdError::Crowded { column: 2 });
+    /// # Ok::<(), CdError>(())
+    /// ```
+    pub fn wall_generator(&self) -> CdResult<Generator> {
+        Generator::from_written(ffi::wall_generator(self.text.as_bytes(), self.wish))
+    }
+
+    /// The radius of [`Cd::generator`], which depends on the order of the nodes as that does. An editor
+    /// prints that of [`Cd::wall_generator`].
     ///
     /// # Errors
     ///
@@ -267,7 +301,8 @@ impl Cd {
         self.generator().map(|point| point.radius())
     }
 
-    /// The reflections in the mirrors, one matrix for each node, which generate the Coxeter group.
+    /// The reflections in the mirrors of [`Cox::normals`], one matrix for each node, as miratope-core
+    /// has them.
     ///
     /// # Errors
     ///
@@ -318,7 +353,8 @@ impl fmt::Display for Cd {
     }
 }
 
-/// The generator point of a diagram.
+/// A generator point of a diagram, [over the walls](Cd::wall_generator) or as [miratope-core has
+/// it](Cd::generator).
 #[derive(Clone, Debug, PartialEq)]
 pub struct Generator {
     coordinates: Vec<f64>,
@@ -326,6 +362,15 @@ pub struct Generator {
 }
 
 impl Generator {
+    /// The point that a call for generators wrote.
+    fn from_written(written: Written<f64, GENERATOR>) -> CdResult<Self> {
+        let (doubles, [nodes, ..]) = written?;
+        Ok(Self {
+            coordinates: doubles[..nodes].to_vec(),
+            radius: doubles[LIMIT],
+        })
+    }
+
     /// The coordinates, one for each node.
     #[must_use]
     pub fn coordinates(&self) -> &[f64] {

@@ -1,9 +1,9 @@
-//! Coxeter matrices and their mirrors.
+//! Coxeter matrices, their mirrors and their walls.
 
 use std::ops::Index;
 
 use crate::{
-    ffi::{self, LIMIT},
+    ffi::{self, Written, LIMIT, SQUARE},
     CdResult,
 };
 
@@ -29,7 +29,7 @@ pub struct Cox {
     matrix: Matrix,
 }
 
-/// What the library computes the mirrors from, since it takes no matrix.
+/// What the library computes the mirrors and walls from, since it takes no matrix.
 #[derive(Clone, Debug)]
 enum Source {
     Text { text: String, wish: bool },
@@ -119,7 +119,9 @@ impl Cox {
         self.matrix.dim()
     }
 
-    /// The mirrors: an upper triangular matrix whose columns are unit normals to them.
+    /// The mirrors as miratope-core has them: an upper triangular matrix whose columns are unit
+    /// normals to them. Those of nodes that an edge m joins meet with the product cos(π/m); Coxeter's,
+    /// which meet with −cos(π/m), are [`Cox::walls`].
     ///
     /// # Errors
     ///
@@ -138,9 +140,45 @@ impl Cox {
     /// # Ok::<(), CdError>(())
     /// ```
     pub fn normals(&self) -> CdResult<Matrix> {
+        self.square(ffi::mirrors, ffi::family_mirrors)
+    }
+
+    /// The walls, which are the mirrors as Coxeter has them: an upper triangular matrix whose columns
+    /// are unit normals to them. Those of nodes that an edge m joins meet with the product −cos(π/m).
+    /// From them [`Cd::wall_generator`](crate::Cd::wall_generator) has its distances.
+    ///
+    /// # Errors
+    ///
+    /// [`CdError::Crowded`](crate::CdError::Crowded) if they do not fit in spherical space. Where
+    /// the nodes make a cycle, that may be so of the walls and not of [`Cox::normals`], or the other
+    /// way round.
+    ///
+    /// ```
+    /// use lexicon::{CdError, Cox};
+    ///
+    /// let walls = Cox::parse("x3o")?.walls()?;
+    /// assert_eq!(walls.column(0), [1.0, 0.0]);
+    /// assert!((walls[(0, 1)] + 0.5).abs() < 1e-15);
+    /// assert!((walls[(1, 1)] - 0.75_f64.sqrt()).abs() < 1e-15);
+    ///
+    /// let tiling = Cox::parse("o3o3o3*a")?;
+    /// assert_eq!(tiling.walls().unwrap_err(), CdError::Crowded { column: 2 });
+    /// assert!(tiling.normals().is_ok());
+    /// # Ok::<(), CdError>(())
+    /// ```
+    pub fn walls(&self) -> CdResult<Matrix> {
+        self.square(ffi::walls, ffi::family_walls)
+    }
+
+    /// What the call for texts or that for families writes, whichever this is from.
+    fn square(
+        &self,
+        of_text: fn(&[u8], bool) -> Written<f64, SQUARE>,
+        of_family: fn(u8, usize) -> Written<f64, SQUARE>,
+    ) -> CdResult<Matrix> {
         let (square, [dim, ..]) = match &self.source {
-            Source::Text { text, wish } => ffi::mirrors(text.as_bytes(), *wish)?,
-            Source::Family { letter, size } => ffi::family_mirrors(*letter, *size)?,
+            Source::Text { text, wish } => of_text(text.as_bytes(), *wish)?,
+            Source::Family { letter, size } => of_family(*letter, *size)?,
         };
         Ok(Matrix::from_square(&square, dim))
     }
@@ -188,7 +226,7 @@ impl Matrix {
         self.dim
     }
 
-    /// The column of this index; of mirrors, the normal of this node's mirror.
+    /// The column of this index; of mirrors or walls, the normal of this node's.
     ///
     /// # Panics
     ///

@@ -7,8 +7,8 @@ use crate::diagram::part;
 /// What a call gives, or why it refuses.
 pub type CdResult<T> = Result<T, CdError>;
 
-/// Why a text, a record, mirrors, a generator, a family or a shelf is refused. Positions, nodes,
-/// columns, edges and places are counted from 0, positions in bytes.
+/// Why a text, a record, mirrors, walls, a generator, a family or a shelf is refused. Positions,
+/// nodes, columns, edges and places are counted from 0, positions in bytes.
 ///
 /// ```
 /// use lexicon::{Cd, CdError};
@@ -110,9 +110,9 @@ pub enum CdError {
     /// kind, a value, a fraction or a filler is bad.
     NoDiagram,
 
-    /// The mirrors don't exist: they would not fit in spherical space.
+    /// The mirrors, or the walls, don't exist: they would not fit in spherical space.
     Crowded {
-        /// The first mirror that doesn't fit.
+        /// The first that doesn't fit.
         column: usize,
     },
 
@@ -293,7 +293,7 @@ impl fmt::Display for CdError {
                 "record not the layout of any diagram: bad count, kind, value, fraction or filler"
             ),
             Self::Crowded { column } => {
-                write!(f, "mirror {column} does not fit in spherical space")
+                write!(f, "mirror or wall {column} does not fit in spherical space")
             }
             Self::Infinite { node } => write!(f, "infinite length at node {node}"),
             Self::NoFamily => write!(f, "no family of this letter and size"),

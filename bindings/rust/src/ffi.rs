@@ -69,7 +69,25 @@ extern "sysv64" {
         answer: *mut usize,
     ) -> usize;
 
+    fn lexicon_walls(
+        text: *const u8,
+        text_len: usize,
+        wish: usize,
+        out: *mut f64,
+        out_len: usize,
+        answer: *mut usize,
+    ) -> usize;
+
     fn lexicon_generator(
+        text: *const u8,
+        text_len: usize,
+        wish: usize,
+        out: *mut f64,
+        out_len: usize,
+        answer: *mut usize,
+    ) -> usize;
+
+    fn lexicon_wall_generator(
         text: *const u8,
         text_len: usize,
         wish: usize,
@@ -96,6 +114,14 @@ extern "sysv64" {
     ) -> usize;
 
     fn lexicon_family_mirrors(
+        letter: u8,
+        size: usize,
+        out: *mut f64,
+        out_len: usize,
+        answer: *mut usize,
+    ) -> usize;
+
+    fn lexicon_family_walls(
         letter: u8,
         size: usize,
         out: *mut f64,
@@ -139,8 +165,16 @@ pub fn mirrors(text: &[u8], wish: bool) -> Written<f64, SQUARE> {
     of_text(lexicon_mirrors, text, wish)
 }
 
+pub fn walls(text: &[u8], wish: bool) -> Written<f64, SQUARE> {
+    of_text(lexicon_walls, text, wish)
+}
+
 pub fn generator(text: &[u8], wish: bool) -> Written<f64, GENERATOR> {
     of_text(lexicon_generator, text, wish)
+}
+
+pub fn wall_generator(text: &[u8], wish: bool) -> Written<f64, GENERATOR> {
+    of_text(lexicon_wall_generator, text, wish)
 }
 
 pub fn reflections(text: &[u8], wish: bool) -> Written<f64, REFLECTIONS> {
@@ -153,6 +187,10 @@ pub fn family_matrix(letter: u8, size: usize) -> Written<f64, SQUARE> {
 
 pub fn family_mirrors(letter: u8, size: usize) -> Written<f64, SQUARE> {
     of_family(lexicon_family_mirrors, letter, size)
+}
+
+pub fn family_walls(letter: u8, size: usize) -> Written<f64, SQUARE> {
+    of_family(lexicon_family_walls, letter, size)
 }
 
 /// Writes the record, and gives the numbering that gives it, which has a place for each node. A

@@ -2,7 +2,8 @@
 //!
 //! [`Cd::parse`] reads a text such as `x4o3o` as miratope-core does, or refuses it with a [`CdError`]
 //! that tells the byte and the reason. [`Cd::record`] gives the figure's [`Record`]: two texts have
-//! the same record exactly when they draw the same figure. [`Cox`] and [`Generator`] are its geometry.
+//! the same record exactly when they draw the same figure. [`Cox`] and [`Generator`] are its geometry;
+//! the radius to print is that of [`Cd::wall_generator`].
 //!
 //! ```
 //! use lexicon::{Cd, CdError};
@@ -10,6 +11,7 @@
 //! let octahedron = Cd::parse("x3o4o")?;
 //! assert_eq!(octahedron.node_count(), 3);
 //! assert_eq!(octahedron.record(), Cd::parse("o4o3x")?.record());
+//! assert_eq!(format!("{:.4}", octahedron.wall_generator()?.radius()), "0.7071");
 //!
 //! assert_eq!(Cd::parse("x3_").unwrap_err(), CdError::InvalidSymbol { pos: 2 });
 //! # Ok::<(), CdError>(())
@@ -54,7 +56,7 @@
 //! | `Cd`: `dim`, `node_count`, `edge_count`, `node_iter`, `nodes`, `minimal`, `cox`; its `Display` | the same, with the fractions of `Display` in lowest terms |
 //! | `Cd::node_vector` | the same, as a `Vec` |
 //! | `Cd::raw_nodes`, `Cd::raw_edges` | [`Cd::diagram`]: its `nodes` and its `edges`, the lower node first, fractions in lowest terms |
-//! | `Cd::generator`, `Cd::circumradius` | the same, with a [`CdError`] for `None` and for infinite lengths; the point is a [`Generator`] |
+//! | `Cd::generator`, `Cd::circumradius` | the same, with a [`CdError`] for `None` and for infinite lengths; the point is a [`Generator`]. They depend on the order of the nodes: to print, take [`Cd::wall_generator`] and its radius, which miratope-core lacks |
 //! | `Cd::new`, `Default` of a `Cd`, `Cd::add_node`, `Cd::add_edge` | none: a diagram comes from a text or from a record. The text `*a` has no nodes |
 //! | `Node`: its cases, `value`, `is_ringed`; its `Display` | the same; `==` is by bits |
 //! | `Node::ringed`, `Node::snub` | [`Node::Ringed`], [`Node::Snub`] |
@@ -67,7 +69,7 @@
 //! | `Cox`: `a`, `b`, `d`, `e`, `h` | the same, with a [`CdError`] for a panic and for sizes above nine |
 //! | `Cox::trivial` | [`Cox::a`] of 1 |
 //! | `Cox::from_lin_diagram_iter`; `Cox::from_lin_diagram` and `Cox::i2`, which panic | [`Cox::parse`] of the chain as a text, such as `o7o` |
-//! | `Cox::normals` | the same, as a [`Matrix`], with a [`CdError`] for `None` |
+//! | `Cox::normals` | the same, as a [`Matrix`], with a [`CdError`] for `None`; Coxeter's mirrors, which miratope-core lacks, are [`Cox::walls`] |
 //! | `Cox::gen_iter`, its `gens` | [`Cd::reflections`], for a family those of its text |
 //! | `Cox::gen_iter`, its walk; `Cox::group` | none: groups are not in the specification |
 //! | `Cox`: `new`, `link`, `iter_mut`, `cox[(i, j)] = ..` | none: the library takes no matrix |

@@ -125,17 +125,21 @@ fn records() {
 }
 
 #[test]
-fn mirrors_and_what_needs_them() -> CdResult<()> {
+fn mirrors_and_walls_and_what_needs_them() -> CdResult<()> {
     let refusal = CdError::Crowded { column: 2 };
     // 15 comes before 16, so the infinite length goes unseen.
     for text in ["x6o3o", "x4o4o", "(inf)4o4o"] {
         let cd = Cd::parse_with_infinite(text)?;
         assert_eq!(cd.cox().normals(), Err(refusal));
+        assert_eq!(cd.cox().walls(), Err(refusal));
         assert_eq!(cd.generator(), Err(refusal));
+        assert_eq!(cd.wall_generator(), Err(refusal));
         assert_eq!(cd.circumradius(), Err(refusal));
         assert_eq!(cd.reflections(), Err(refusal));
     }
-    let words = "mirror 2 does not fit in spherical space";
+    let cycle = Cd::parse_with_infinite("(inf)3o3o3*a")?;
+    assert_eq!(cycle.wall_generator(), Err(refusal));
+    let words = "mirror or wall 2 does not fit in spherical space";
     assert_eq!((refusal.number(), &refusal.to_string()[..]), (15, words));
     Ok(())
 }
@@ -145,6 +149,7 @@ fn infinite_lengths() -> CdResult<()> {
     let refusal = CdError::Infinite { node: 1 };
     let cd = Cd::parse_with_infinite("x3(-inf)3(inf)")?;
     assert_eq!(cd.generator(), Err(refusal));
+    assert_eq!(cd.wall_generator(), Err(refusal));
     assert_eq!(cd.circumradius(), Err(refusal));
     let words = "infinite length at node 1";
     assert_eq!((refusal.number(), &refusal.to_string()[..]), (16, words));
