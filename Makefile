@@ -94,7 +94,7 @@ oracle:
 claims:
 	@docs/check_claims.py
 
-# At -O3, as rt compiles. The plain C of the root and the cosine may call nothing: its root is the machine's instruction.
+# At -O3, as rt compiles. The plain C of the root, the cosine and the walls takes the machine's instruction for the root; that of the first two may call nothing.
 BENCH = bench.c timing.c reading.c figure.c filing.c filing_plain.c shelf.c shelf_figures.c cox.c float.c command.c
 bench: libs oracle cli
 	@python3 oracle/corpus.py long >target/long.txt
@@ -102,8 +102,9 @@ bench: libs oracle cli
 	@bench/headwords 1000000 1 few >target/headwords-few.txt
 	@$(CC) $(CFLAGS) -O3 -fno-math-errno -c -o target/float_plain.o bench/float_plain.c
 	@test -z "$$(nm -u target/float_plain.o)"
+	@$(CC) $(CFLAGS) -O3 -fno-math-errno -Iinclude -c -o target/walls_plain.o bench/walls_plain.c
 	@if bench/get_nauty; then set -- -DNAUTY bench/filing_nauty.c -l:libnautyL1.a; fi; \
-	$(CC) $(CFLAGS) -O3 -Iinclude -o target/bench $(BENCH:%=bench/%) target/float_plain.o "$$@" \
+	$(CC) $(CFLAGS) -O3 -Iinclude -o target/bench $(BENCH:%=bench/%) target/float_plain.o target/walls_plain.o "$$@" \
 		$(LIB)/libfloat_c.a $(LIB)/liblexicon_c.a target/rust/release/libmiratope.a -lpthread -ldl -lm
 	@target/bench target/long.txt target/headwords.txt target/headwords-few.txt >target/table.md
 	@bench/write <target/table.md

@@ -2,9 +2,9 @@
 -- b × (b + 1) / 2 + a with a ≤ b is place a of row b, which a load or a store reaches past the rows before it. A loop that fills an array, or replaces each of
 -- its elements, has done so to the first k. Assumes nothing.
 use Prim.Native.Nat.{ℕ, zero, suc, _+_, _*_, _/_, _≤_, _<_}
-use mathlib.Core.List.{List, [], _∷_, _++_, map}
+use mathlib.Core.List.{List, [], _∷_, _++_, map, map-append}
 use mathlib.Core.Logic.{_⊎_, inl, inr, ⊎-elim}
-use mathlib.Core.Path.{_≡_, refl, sym, ap, _∙_}
+use mathlib.Core.Path.{_≡_, refl, sym, ap, ap₂, _∙_}
 use native.Mathlib.Decide.{decLt}
 use native.Mathlib.Nat.{zero-add, suc-add, le-of-suc-le-suc, not-suc-le-zero, eq-or-lt-of-le}
 use native.Mathlib.Numerals.{add-one}
@@ -227,3 +227,15 @@ module _ {A : Type 0} (f g : ℕ → ℕ → A) where
               let other : (i j : ℕ) → i ≤ j → (i ≡ b → j ≡ a → ⊥) → Same a b i j → ⊥ = λ i j m k. ⊎-elim (λ s. k (omega arith) (omega arith)) (λ s. k (sym (s .1)) (sym (s .0))) in
               rw (place-falling a b (omega arith)) (set-rising n b a (omega arith) p (e b a (omega arith) (inr (refl, refl))) (λ i j m k. o i j m (other i j m k)))
         ]
+
+-- ---- a triangle that a function was applied to
+
+map-row : {A B : Type 0} (g : A → B) (f : ℕ → ℕ → A) (j k : ℕ) → map g (row f j k) ≡ row (λ x y. g (f x y)) j k
+unfolding row
+map-row g f j zero = refl
+map-row g f j (suc k) = map-append g (row f j k) (f k j ∷ []) ∙ ap (λ l. l ++ (g (f k j) ∷ [])) (map-row g f j k)
+
+pub map-triangle : {A B : Type 0} (g : A → B) (f : ℕ → ℕ → A) (n : ℕ) → map g (triangle f n) ≡ triangle (λ x y. g (f x y)) n
+unfolding triangle
+map-triangle g f zero = refl
+map-triangle g f (suc n) = map-append g (triangle f n) (row f n (suc n)) ∙ ap₂ _++_ (map-triangle g f n) (map-row g f n (suc n))

@@ -1,14 +1,15 @@
 // cox/mod.rs of miratope-core, with cox of its cd.rs: the matrix of a diagram, and the families. A square of doubles is one array, row r of column c at LIMIT × c + r.
 use cd::Cd;
 use cd::LIMIT;
+use cd::PAIRS;
 use cd::Pair;
 use cd::SQUARE;
-ghost use mathlib.Core.List.{List};
+ghost use mathlib.Core.List.{List, map};
 ghost use mathlib.Core.Path.{_≡_};
 ghost use Prim.Native.Nat.{_<_, _≤_};
 ghost use Rattle.cd.specs.Diagrams.{Stored, limit, cdOf};
 ghost use Rattle.cd.specs.declared.Node.{Node};
-ghost use Rattle.cox.specs.Shown.{pairEntry, coxOf};
+ghost use Rattle.cox.specs.Shown.{pairValue, entries, putColumn, coxOf};
 ghost use Rattle.cox.specs.Squares.{Square, zeros as the-zeros, flatSquare, dot as the-dot};
 
 pub mod families; // families.rt: the matrices of A, B, D, E and H
@@ -25,13 +26,10 @@ pub fn zeros() -> [f64; SQUARE]
     [0.0; SQUARE]
 }
 
-// An entry of the matrix, by the place of its pair.
-fn entry(p: Pair, i: usize, j: usize) -> f64
-    ensures { λ r. ⌜ r ≡ pairEntry p i j ⌝ }
+// What stands for two different nodes, by the place of their pair.
+fn pair_value(p: Pair) -> f64
+    ensures { λ r. ⌜ r ≡ pairValue p ⌝ }
 {
-    if i == j {
-        return 1.0;
-    }
     if p.rank == 0 {
         return 2.0;
     }
@@ -39,13 +37,44 @@ fn entry(p: Pair, i: usize, j: usize) -> f64
     e.num as f64 / e.den as f64
 }
 
+fn pair_values(pairs: [Pair; PAIRS]) -> [f64; PAIRS]
+    ensures { λ r. ⌜ r ≡ map pairValue pairs ⌝ }
+{
+    let mut out = [2.0; PAIRS];
+    for k in 0..PAIRS {
+        let p = pairs[k];
+        out[k] = pair_value(p);
+    }
+    out
+}
+
+fn entry(values: &[f64; PAIRS], i: usize, j: usize) -> f64
+    requires { ⌜ (i < limit) × (j < limit) ⌝ }
+    ensures { λ r. ⌜ r ≡ entries (now (values .entry)) i j ⌝ }
+{
+    if i == j {
+        return 1.0;
+    }
+    values[cd::pair_place(i, j)]
+}
+
+fn put_column(values: &[f64; PAIRS], at: &mut [f64; SQUARE], c: usize)
+    requires { ⌜ c < limit ⌝ }
+    ensures { λ _. ⌜ ((m : Square) → now (at .entry) ≡ flatSquare limit m → now (at .exit) ≡ flatSquare limit (putColumn m c (entries (now (values .entry)) c) limit)) ⌝ }
+{
+    for r in 0..LIMIT {
+        at[LIMIT * c + r] = entry(values, c, r);
+    }
+}
+
 pub fn matrix(cd: Cd) -> Cox
     ensures { λ r. ⌜ ((ns : List Node) (es : List Stored) → cd ≡ cdOf ns es → r ≡ coxOf ns es) ⌝ }
 {
+    let pairs = cd.pairs;
+    let values = pair_values(pairs);
     let mut at = zeros();
-    for k in 0..SQUARE {
-        let p = cd.pairs[cd::pair_place(k / LIMIT, k % LIMIT)];
-        at[k] = entry(p, k / LIMIT, k % LIMIT);
+    for c in 0..LIMIT {
+        put_column(&values, &mut at, c);
     }
     Cox {
         at: at,

@@ -101,9 +101,9 @@ fn solve(m: &[f64; SQUARE], values: [f64; LIMIT], n: usize) -> [f64; LIMIT]
 }
 
 // Half the value of node i, less each coordinate before i times its row of column i.
-fn rest(m: &[f64; SQUARE], b: [f64; LIMIT], i: usize) -> f64
+fn rest(m: &[f64; SQUARE], b: &[f64; LIMIT], i: usize) -> f64
     requires { ⌜ i < limit ⌝ }
-    ensures { λ r. ⌜ ((f : Square) (c : ℕ → Float) → now (m .entry) ≡ flatSquare limit f → b ≡ flat limit c → r ≡ restᶠ f c i i) ⌝ }
+    ensures { λ r. ⌜ ((f : Square) (c : ℕ → Float) → now (m .entry) ≡ flatSquare limit f → now (b .entry) ≡ flat limit c → r ≡ restᶠ f c i i) ⌝ }
 {
     let mut rest = b[i] / 2.0;
     let mut k = 0;
@@ -122,7 +122,7 @@ fn place(m: &[f64; SQUARE], values: [f64; LIMIT], n: usize) -> [f64; LIMIT]
     let mut b = values;
     let mut i = 0;
     while i < n {
-        b[i] = rest(m, b, i) / m[LIMIT * i + i];
+        b[i] = rest(m, &b, i) / m[LIMIT * i + i];
         i += 1;
     }
     b

@@ -1,3 +1,3 @@
--- The laws of squares that are filled column by column, and of matrices made one by one.
+-- The laws of the columns of a reflection, and of matrices made one by one.
 pub mod Columns
 pub mod Matrices

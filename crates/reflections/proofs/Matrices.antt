@@ -15,7 +15,7 @@ use Rattle.cox.proofs.Flats.{flat-set}
 use Rattle.reflections.specs.Reflections.{reflection}
 use Rattle.reflections.specs.Shown.{reflectionsOf}
 use Rattle.reflections.specs.declared.Matrix.{Matrix}
-use Rattle.reflections.proofs.Columns.{pick-more}
+use Rattle.cox.proofs.Columns.{pick-more}
 
 abbrev pub matrix : Square → Matrix
 matrix m = record { at = flatSquare limit m }

@@ -1,7 +1,6 @@
 -- How the code holds reflections: each goes on past the count as the unit matrix, and past the last mirror there are zeros.
-use mathlib.Core.Bool.{_&&_}
 use Prim.Native.Nat.{ℕ}
-use lib.Dec.{ltb, eqb}
+use lib.Dec.{ltb}
 use lib.Ieee.{Float}
 use Rattle.float.specs.Numbers.{_-ᶠ_, _*ᶠ_}
 use Rattle.float.specs.Pick.{pick}
@@ -13,10 +12,6 @@ use Rattle.reflections.specs.declared.Reflections as declared
 unfoldable pub reflectionsOf : ℕ → Square → declared.Reflections
 unfolding flat flatSquare reflection
 reflectionsOf n m = record { of = flat limit (λ i. record { at = flatSquare limit (pick (ltb i n) (reflection (m i) n) zeros) }); count = n }
-
--- the square whose column c has f in its first k rows
-unfoldable pub putColumn : Square → ℕ → (ℕ → Float) → ℕ → Square
-putColumn m c f k i j = pick (eqb i c && ltb j k) (f j) (m i j)
 
 -- column c of the reflection in n, with q for 2×(e·n) ÷ (n·n)
 unfoldable pub column : (ℕ → Float) → ℕ → Float → ℕ → Float

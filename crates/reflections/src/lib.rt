@@ -5,7 +5,8 @@ ghost use mathlib.Core.Path.{_≡_};
 ghost use Prim.Native.Nat.{_<_, _≤_};
 ghost use Rattle.cd.specs.Diagrams.{limit};
 ghost use Rattle.reflections.specs.Reflections.{unit as the-unit, reflection as the-reflection};
-ghost use Rattle.reflections.specs.Shown.{putColumn, column, reflectionsOf};
+ghost use Rattle.cox.specs.Shown.{putColumn};
+ghost use Rattle.reflections.specs.Shown.{column, reflectionsOf};
 ghost use Rattle.cox.specs.Squares.{Square, flatSquare, dot as the-dot};
 
 pub struct Matrix {

@@ -23,7 +23,7 @@ loop-holds c = (omega arith, λ f b e w. w ∙ ap (flat limit) (place-none f b))
 loop-again : tie.Need-loop-again Inv-loop μ-loop
 loop-again c =
     let s = c .before in
-    let l = s .before .before in
+    let l = s .before .before .before in
     let i = l .loop .i in (
       omega arith,
       λ f b e w.

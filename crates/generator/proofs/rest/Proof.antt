@@ -13,22 +13,22 @@ use Rattle.generator.proofs.rest.Statement.{statement}
 use Rattle.generator.proofs.rest.Tie as tie
 
 abbrev Inv-loop : tie.InvT-loop
-Inv-loop m i b rest₀ k₀ rest k = (k ≤ i) × ((f : Square) (c : ℕ → Float) → m ≡ flatSquare limit f → b ≡ flat limit c → rest ≡ restᶠ f c i k)
+Inv-loop m b i rest₀ k₀ rest k = (k ≤ i) × ((f : Square) (c : ℕ → Float) → m ≡ flatSquare limit f → b ≡ flat limit c → rest ≡ restᶠ f c i k)
 
 abbrev μ-loop : tie.MeasureT-loop
-μ-loop m i b rest₀ k₀ rest k = i - k
+μ-loop m b i rest₀ k₀ rest k = i - k
 
 loop-holds : tie.Need-loop-holds Inv-loop μ-loop
 loop-holds c =
-    let i = c .args .i in (
+    let i = c .before .args .i in (
       omega arith,
-      λ f b e w. ap₂ _/ᶠ_ (row-read limit b _ nan w i (c .pre)) two-literal ∙ rest-none f b i,
+      λ f b e w. ap₂ _/ᶠ_ (row-read limit b _ nan w i (c .before .pre)) two-literal ∙ rest-none f b i,
     )
 
 loop-again : tie.Need-loop-again Inv-loop μ-loop
 loop-again c =
-    let l = c .before .before in
-    let a = l .before in (
+    let l = c .before .before .before in
+    let a = l .before .before in (
       omega arith,
       λ f b e w.
           rest-more f b (a .args .i) (l .loop .k) _ _ _ (l .loop .inv .1 f b e w)
@@ -37,7 +37,7 @@ loop-again c =
     )
 
 returns : tie.Need-returns Inv-loop μ-loop
-returns c f b e w = c .before .loop .inv .1 f b e w ∙ ap (restᶠ f b (c .before .before .args .i)) (omega arith)
+returns c f b e w = c .before .loop .inv .1 f b e w ∙ ap (restᶠ f b (c .before .before .before .args .i)) (omega arith)
 
 pub rest-spec : {M : Type 1} → statement M
 rest-spec =

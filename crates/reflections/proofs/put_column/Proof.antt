@@ -7,8 +7,10 @@ use lib.Ieee.{nan}
 use Rattle.cd.specs.Diagrams.{limit}
 use Rattle.cox.specs.Squares.{Square, flatSquare}
 use Rattle.cox.proofs.Sums.{entry-read}
-use Rattle.reflections.specs.Shown.{putColumn, column}
-use Rattle.reflections.proofs.Columns.{column-none, column-put}
+use Rattle.cox.specs.Shown.{putColumn}
+use Rattle.reflections.specs.Shown.{column}
+use Rattle.cox.proofs.Columns.{column-none}
+use Rattle.reflections.proofs.Columns.{column-put}
 use Rattle.reflections.proofs.put_column.Statement.{statement}
 use Rattle.reflections.proofs.put_column.Tie as tie
 

@@ -7,7 +7,8 @@ use Rattle.cd.specs.Diagrams.{limit}
 use Rattle.cox.specs.Squares.{Square, flatSquare}
 use Rattle.cox.proofs.Sums.{two-literal}
 use Rattle.reflections.specs.Reflections.{reflection}
-use Rattle.reflections.proofs.Columns.{first, first-none, first-all, first-more, column-reflected}
+use Rattle.cox.proofs.Columns.{first, first-none, first-all, first-more}
+use Rattle.reflections.proofs.Columns.{column-reflected}
 use Rattle.reflections.proofs.reflection.Statement.{statement}
 use Rattle.reflections.proofs.reflection.Tie as tie
 
