@@ -113,8 +113,10 @@ size_t lexicon_walls(const uint8_t *text, size_t text_len, size_t wish, double *
 size_t lexicon_generator(const uint8_t *text, size_t text_len, size_t wish, double *out, size_t out_len, size_t answer[LEXICON_ANSWER]);
 
 /* The generator over the walls, laid out as for lexicon_generator: the point whose distance from the wall of node i is half the length of i, so that its images
- * are joined by edges of these lengths: x alone has radius 1/2. It is the one to print, since its circumradius is the figure's and is the same for every text of the
- * figure, up to rounding: that of x3o4o and of o4o3x is the root of 1/2. Tells the nodes.
+ * in the walls are joined by edges of these lengths; x alone has radius 1/2. A negative length puts it on the other side, and a snub node counts as a ringed
+ * one. It is the one to print, since its circumradius is the figure's, the same for every text of the figure up to rounding: that of x3o4o and of o4o3x is
+ * the root of 1/2. The more crowded the walls are, the more digits are lost, and where they almost don't fit, some texts of a figure may be refused with 15
+ * and others not; docs/DIFFERENCES.md has measurements. Tells the nodes.
  * Refuses with 1 to 11, 23, 15, 16 and 12. */
 size_t lexicon_wall_generator(const uint8_t *text, size_t text_len, size_t wish, double *out, size_t out_len, size_t answer[LEXICON_ANSWER]);
 

@@ -259,8 +259,10 @@ impl Cd {
     /// [`Cox::walls`] has, is half the node's length.
     ///
     /// An editor prints the radius of this one. It is the circumradius of the figure whose edges have
-    /// the lengths of the nodes, and the same for every text of the figure, up to rounding. That of
-    /// [`Cd::generator`] is miratope-core's and depends on the order in which the nodes were typed.
+    /// the lengths of the nodes, snub nodes counting as ringed ones, and the same for every text of the
+    /// figure, up to rounding. That of [`Cd::generator`] is miratope-core's and depends on the order in
+    /// which the nodes were typed. The more crowded the walls are, the more digits are lost, and where
+    /// they almost don't fit, some texts of a figure may be refused and others not.
     ///
     /// [`Cd::reflections`] are in miratope-core's mirrors, not in the walls: they don't send this
     /// point to the other vertices of the figure.
