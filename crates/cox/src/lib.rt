@@ -37,6 +37,7 @@ fn pair_value(p: Pair) -> f64
     e.num as f64 / e.den as f64
 }
 
+// Of all pairs, so that each fraction is divided once.
 fn pair_values(pairs: [Pair; PAIRS]) -> [f64; PAIRS]
     ensures { λ r. ⌜ r ≡ map pairValue pairs ⌝ }
 {
@@ -48,6 +49,7 @@ fn pair_values(pairs: [Pair; PAIRS]) -> [f64; PAIRS]
     out
 }
 
+// An entry of the matrix, by those values.
 fn entry(values: &[f64; PAIRS], i: usize, j: usize) -> f64
     requires { ⌜ (i < limit) × (j < limit) ⌝ }
     ensures { λ r. ⌜ r ≡ entries (now (values .entry)) i j ⌝ }
@@ -58,6 +60,7 @@ fn entry(values: &[f64; PAIRS], i: usize, j: usize) -> f64
     values[cd::pair_place(i, j)]
 }
 
+// Column c of the matrix.
 fn put_column(values: &[f64; PAIRS], at: &mut [f64; SQUARE], c: usize)
     requires { ⌜ c < limit ⌝ }
     ensures { λ _. ⌜ ((m : Square) → now (at .entry) ≡ flatSquare limit m → now (at .exit) ≡ flatSquare limit (putColumn m c (entries (now (values .entry)) c) limit)) ⌝ }

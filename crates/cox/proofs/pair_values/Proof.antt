@@ -1,6 +1,6 @@
 -- `cox::pair_values` meets its contract. The invariant: the first k values are those of their pairs; the measure is what is left of the pairs. Assumes nothing.
 use mathlib.Core.List.{map}
-use mathlib.Core.Path.{_≡_, refl, ap, _∙_}
+use mathlib.Core.Path.{_≡_, refl}
 use Prim.Native.Nat.{_-_, _≤_}
 use native.Mathlib.Omega.{arith}
 use borrow.Author.Needs.{needs}
