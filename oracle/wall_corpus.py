@@ -73,7 +73,7 @@ def odd_cycle(nodes, edges):
 
 
 def true_radii():
-    """Circumradii of figures of edge 1, as they are published, and snub nodes, which count as ringed."""
+    """Circumradii that are known in closed form, most of figures of edge 1, and snub nodes, which count as ringed."""
     root, golden = math.sqrt, (1 + math.sqrt(5)) / 2
     polygon = {p: 1 / (2 * math.sin(math.pi / p)) for p in (5, 5 / 2, 100)}
     for text, radius in {
