@@ -1,12 +1,12 @@
 -- Lists laid out in arrays. `padded` goes by recursion on its list. The rows of a triangle before row n hold n × (n + 1) / 2 places, so the place
 -- b × (b + 1) / 2 + a with a ≤ b is place a of row b, which a load or a store reaches past the rows before it. A loop that fills an array, or replaces each of
 -- its elements, has done so to the first k. Assumes nothing.
-use Prim.Native.Nat.{ℕ, zero, suc, _+_, _*_, _/_, _≤_, _<_}
+use Prim.Native.Nat.{ℕ, zero, suc, _+_, _-_, _*_, _/_, _≤_, _<_}
 use mathlib.Core.List.{List, [], _∷_, _++_, map, map-append}
 use mathlib.Core.Logic.{_⊎_, inl, inr, ⊎-elim}
 use mathlib.Core.Path.{_≡_, refl, sym, ap, ap₂, _∙_}
 use native.Mathlib.Decide.{decLt}
-use native.Mathlib.Nat.{zero-add, suc-add, le-of-suc-le-suc, not-suc-le-zero, eq-or-lt-of-le}
+use native.Mathlib.Nat.{zero-add, sub-zero, suc-add, le-of-suc-le-suc, not-suc-le-zero, eq-or-lt-of-le}
 use native.Mathlib.Numerals.{add-one}
 use native.Mathlib.Omega.{arith}
 use borrow.Author.Tests.{lt-ltb, le-ltb}
@@ -62,6 +62,14 @@ module _ {A : Type 0} (d : A) where
   unfolding padded
   padded-blank zero = refl
   padded-blank (suc n) = rw (padded-blank n)
+
+  pub padded-rest : (n : ℕ) (xs : List A) → length xs ≤ n → padded d n xs ≡ xs ++ replicate (n - length xs) d
+  unfolding padded
+  padded-rest n [] h = padded-blank n ∙ ap (λ k. replicate k d) (sym (sub-zero n))
+  padded-rest zero (x ∷ xs) h = absurd (not-suc-le-zero h)
+  padded-rest (suc n) (x ∷ xs) h =
+      let e : n - length xs ≡ suc n - suc (length xs) = omega arith in
+      rw (padded-rest n xs (le-of-suc-le-suc h)) (ap (λ k. x ∷ (xs ++ replicate k d)) e)
 
   pub set-padded : (v : A) (n : ℕ) (xs : List A) → length xs < n → set (padded d n xs) (length xs) v ≡ padded d n (xs ++ (v ∷ []))
   unfolding padded

@@ -64,6 +64,7 @@ pub enum CdError {
     ShelfLength,
     ShelfPlace { place: usize },
     OnShelf { place: usize },
+    NoName { node: usize },
     NotSmallest,
     InfiniteLength { pos: usize },
 }
@@ -105,6 +106,7 @@ pub fn figures(e: CdError) -> Numbers
         CdError::ShelfLength => no_field(18),
         CdError::ShelfPlace { place } => one_field(19, place),
         CdError::OnShelf { place } => one_field(20, place),
+        CdError::NoName { node } => one_field(21, node),
         CdError::NotSmallest => no_field(22),
         CdError::InfiniteLength { pos } => one_field(23, pos),
     }

@@ -34,7 +34,7 @@ matrix-symmetric es i j = rw (eqb-symmetric i j, between-symmetric es i j)
 
 -- ---- the matrices of the families
 
-abbrev IsSymmetric : (ℕ → ℕ → ℕ) → Type 0
+abbrev pub IsSymmetric : (ℕ → ℕ → ℕ) → Type 0
 IsSymmetric f = (i j : ℕ) → f i j ≡ f j i
 
 entry-symmetric : (a b i j : ℕ) → isEntry a b i j ≡ isEntry a b j i
@@ -42,11 +42,11 @@ unfolding isEntry
 entry-symmetric a b i j =
     or-comm (eqb i a && eqb j b) (eqb i b && eqb j a) ∙ ap₂ _||_ (and-comm (eqb i b) (eqb j a)) (and-comm (eqb i a) (eqb j b))
 
-chain-symmetric : IsSymmetric chain
+pub chain-symmetric : IsSymmetric chain
 unfolding chain
 chain-symmetric i j = rw (eqb-symmetric i j, or-comm (eqb (i + 1) j) (eqb (j + 1) i))
 
-made-symmetric : (a b v : ℕ) (f : ℕ → ℕ → ℕ) → IsSymmetric f → IsSymmetric (made a b v f)
+pub made-symmetric : (a b v : ℕ) (f : ℕ → ℕ → ℕ) → IsSymmetric f → IsSymmetric (made a b v f)
 unfolding made
 made-symmetric a b v f s i j = rw (entry-symmetric a b i j, s i j)
 

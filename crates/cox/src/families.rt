@@ -42,7 +42,7 @@ fn is_entry(a: usize, b: usize, i: usize, j: usize) -> bool
 }
 
 // A chain of 3s.
-fn chain(i: usize, j: usize) -> u32
+pub fn chain(i: usize, j: usize) -> u32
     requires { ⌜ (i < limit) × (j < limit) ⌝ }
     ensures { λ r. ⌜ r ≡ the-chain i j ⌝ }
 {
@@ -59,7 +59,7 @@ fn chain(i: usize, j: usize) -> u32
 }
 
 // The entry x, or v at a, b.
-fn made(a: usize, b: usize, v: u32, x: u32, i: usize, j: usize) -> u32
+pub fn made(a: usize, b: usize, v: u32, x: u32, i: usize, j: usize) -> u32
     ensures { λ r. ⌜ r ≡ pick (isEntry a b i j) v x ⌝ }
 {
     if is_entry(a, b, i, j) { v } else { x }

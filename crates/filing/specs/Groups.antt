@@ -3,10 +3,7 @@ use mathlib.Core.Bool.{Bool, true, false, _&&_}
 use Prim.Native.Nat.{ℕ, zero, suc, _+_, _*_}
 use lib.Dec.{eqb}
 use Rattle.filing.specs.Diagrams.{Node}
-
-unfoldable pub factorial : ℕ → ℕ
-factorial zero = 1
-factorial (suc n) = suc n * factorial n
+use Rattle.filing.specs.Factorials.{factorial}
 
 -- "their nine bytes": kind and value bits
 unfoldable pub alike : Node → Node → Bool

@@ -6,5 +6,6 @@ pub mod Diagrams
 pub mod Records
 pub mod First
 pub mod Readable
+pub mod Factorials
 pub mod Groups
 pub mod Sequences

@@ -24,7 +24,7 @@ use Rattle.lexicon.specs.declared.Filed.{Filed}
 pub not-both : {x : Reading} {e : CdError} {ns : List Node} {es : List Stored} → x ≡ Refused e → x ≡ Accepted ns es → ⊥
 not-both h k = let z : _≡_ {A = ℕ} 0 1 = (cc) in omega arith
 
-one-refusal : {x : Reading} {e f : CdError} → x ≡ Refused e → x ≡ Refused f → e ≡ f
+pub one-refusal : {x : Reading} {e f : CdError} → x ≡ Refused e → x ≡ Refused f → e ≡ f
 one-refusal {e = e} {f = f} h k = let d = sym h ∙ k in let q : e ≡ f = cc in q
 
 pub one-diagram : {x : Reading} {ns ms : List Node} {es fs : List Stored} → x ≡ Accepted ns es → x ≡ Accepted ms fs → (ns ≡ ms) × (es ≡ fs)

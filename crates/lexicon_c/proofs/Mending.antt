@@ -13,7 +13,7 @@ use Rattle.cd.specs.Arrays.{padded}
 use Rattle.cd.specs.Diagrams.{limit}
 use Rattle.cd.specs.Refusals.{numberOf}
 use Rattle.cd.specs.declared.CdError.{CdError}
-use Rattle.cd.specs.declared.CdError.the-variants.{TooLong, NotAscii, MismatchedParenthesis, UnexpectedEnding, ParseError, InvalidSymbol, InvalidEdge, RepeatEdge, OutOfRange, TooManyNodes, MissingNode, ShortBuffer, RecordLength, NoDiagram, Crowded, Infinite, NoFamily, ShelfLength, ShelfPlace, OnShelf, NotSmallest, InfiniteLength}
+use Rattle.cd.specs.declared.CdError.the-variants.{TooLong, NotAscii, MismatchedParenthesis, UnexpectedEnding, ParseError, InvalidSymbol, InvalidEdge, RepeatEdge, OutOfRange, TooManyNodes, MissingNode, ShortBuffer, RecordLength, NoDiagram, Crowded, Infinite, NoFamily, ShelfLength, ShelfPlace, OnShelf, NoName, NotSmallest, InfiniteLength}
 use Rattle.filing.specs.Diagrams.{Iso}
 use Rattle.filing.specs.Readable.{LaidOut}
 use Rattle.filing.specs.Records.{recordLength}
@@ -49,6 +49,7 @@ only-22 NoFamily h = absurd (omega arith)
 only-22 ShelfLength h = absurd (omega arith)
 only-22 (ShelfPlace p) h = absurd (omega arith)
 only-22 (OnShelf p) h = absurd (omega arith)
+only-22 (NoName k) h = absurd (omega arith)
 only-22 NotSmallest h = refl
 only-22 (InfiniteLength p) h = absurd (omega arith)
 

@@ -10,7 +10,7 @@ use Rattle.float.specs.Pick.{pick}
 use Rattle.cd.specs.Arrays.{padded}
 use Rattle.cd.specs.Refusals.{numberOf}
 use Rattle.cd.specs.declared.CdError.{CdError}
-use Rattle.cd.specs.declared.CdError.the-variants.{TooLong, NotAscii, MismatchedParenthesis, UnexpectedEnding, ParseError, InvalidSymbol, InvalidEdge, RepeatEdge, OutOfRange, TooManyNodes, MissingNode, ShortBuffer, RecordLength, NoDiagram, Crowded, Infinite, NoFamily, ShelfLength, ShelfPlace, OnShelf, NotSmallest, InfiniteLength}
+use Rattle.cd.specs.declared.CdError.the-variants.{TooLong, NotAscii, MismatchedParenthesis, UnexpectedEnding, ParseError, InvalidSymbol, InvalidEdge, RepeatEdge, OutOfRange, TooManyNodes, MissingNode, ShortBuffer, RecordLength, NoDiagram, Crowded, Infinite, NoFamily, ShelfLength, ShelfPlace, OnShelf, NoName, NotSmallest, InfiniteLength}
 use Rattle.lent.specs.Outcomes.{told}
 use Rattle.lent.specs.Shown.{outcome}
 use Rattle.parse.specs.declared.Answer.{Answer}
@@ -61,6 +61,7 @@ numbered NoFamily = omega arith
 numbered ShelfLength = omega arith
 numbered (ShelfPlace p) = omega arith
 numbered (OnShelf p) = omega arith
+numbered (NoName k) = omega arith
 numbered NotSmallest = omega arith
 numbered (InfiniteLength p) = omega arith
 

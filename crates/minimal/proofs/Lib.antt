@@ -1,5 +1,5 @@
 -- The laws of components and of rings.
-mod Paths
-mod Labelling
+pub mod Paths
+pub mod Labelling
 mod Links
 mod Rings

@@ -1,8 +1,9 @@
 -- What tables made of a Cd hold of its diagram. The first stored edge that joins two nodes is what both `between` and `joint` tell, by induction on the
 -- stored edges; an edge's den is above 0, and so only a pair that nothing joins counts as 2/1. Assumes nothing.
-use Prim.Native.Nat.{ℕ, zero, suc, _+_, _<_}
+use Prim.Native.Nat.{ℕ, zero, suc, _+_, _*_, _<_}
 use mathlib.Core.Bool.{Bool, true, false}
 use mathlib.Core.List.{List, [], _∷_, map}
+use mathlib.Core.Logic.{_≢_}
 use mathlib.Core.Path.{_≡_, refl, sym, ap, _∙_}
 use native.Mathlib.Nat.{not-suc-le-zero, le-of-suc-le-suc}
 use native.Mathlib.Omega.{arith}
@@ -59,17 +60,22 @@ module _ (cd : Cd) (ns : List Node) (es : List Stored) (held : cd ≡ cdOf ns es
       let long : length (cd .nodes) ≡ limit = ap length (nodes-held cd ns es held) ∙ length-padded (place Unringed) limit (map place ns) in
       at-map f (place Unringed) (cd .nodes) i (omega (arith, long)) ∙ ap f (node-held cd ns es held (place Unringed) i h)
 
-  pub tables-hold : (t : Tables) → t .count ≡ cd .count → t .kinds ≡ map (λ p. filed (p .node) .kind) (cd .nodes) → t .bits ≡ map (λ p. filed (p .node) .bits) (cd .nodes) → PairTable limit (cd .count) (cd .pairs) (t .pairs) → IsKept limit (diagram ns es) → Holds limit t (diagram ns es)
+  -- the numbers of the pairs
+  pub pairs-hold : (pairs : List ℕ) → PairTable limit (cd .count) (cd .pairs) pairs → IsKept limit (diagram ns es) → (i j : ℕ) → i < length ns → j < length ns → i ≢ j → at pairs (limit * i + j) ≡ number (joint es i j)
   unfolding diagram number
+  pairs-hold pairs table d i j h l ne =
+      let low : i < limit = omega (arith, d .is .few) in
+      let low′ : j < limit = omega (arith, d .is .few) in
+      table i j (omega (arith, count-held cd ns es held)) low′
+      ∙ ap pairNumber (ap (λ q. getD q (placeOf i j) none) (pairs-held cd ns es held) ∙ loaded es i j none low low′)
+      ∙ number-between 1 es i j (d .is .edges i j h l ne .den-pos)
+      ∙ ap spelt (sym (d .lowest-terms i j h l ne))
+
+  pub tables-hold : (t : Tables) → t .count ≡ cd .count → t .kinds ≡ map (λ p. filed (p .node) .kind) (cd .nodes) → t .bits ≡ map (λ p. filed (p .node) .bits) (cd .nodes) → PairTable limit (cd .count) (cd .pairs) (t .pairs) → IsKept limit (diagram ns es) → Holds limit t (diagram ns es)
+  unfolding diagram
   tables-hold t n ks bs ps d = record {
     count = n ∙ count-held cd ns es held;
     kinds = λ i h. rw ks (node-table (λ p. filed (p .node) .kind) i (omega (arith, d .is .few)));
     bits = λ i h. rw bs (node-table (λ p. filed (p .node) .bits) i (omega (arith, d .is .few)));
-    pairs = λ i j h l ne.
-        let low : i < limit = omega (arith, d .is .few) in
-        let low′ : j < limit = omega (arith, d .is .few) in
-        ps i j (omega (arith, count-held cd ns es held)) low′
-        ∙ ap pairNumber (ap (λ q. getD q (placeOf i j) none) (pairs-held cd ns es held) ∙ loaded es i j none low low′)
-        ∙ number-between 1 es i j (d .is .edges i j h l ne .den-pos)
-        ∙ ap spelt (sym (d .lowest-terms i j h l ne));
+    pairs = pairs-hold (t .pairs) ps d;
   }

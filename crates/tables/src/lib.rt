@@ -83,7 +83,7 @@ fn blank() -> [u64; SQUARE] {
 }
 
 // For the nodes u and v, at LIMIT × u + v, the number of their pair; only the nodes' rows are filled.
-fn pairs_of(cd: Cd) -> [u64; SQUARE]
+pub fn pairs_of(cd: Cd) -> [u64; SQUARE]
     requires { ⌜ cd .count ≤ limit ⌝ }
     ensures { λ r. ⌜ PairTable limit (cd .count) (cd .pairs) r ⌝ }
 {

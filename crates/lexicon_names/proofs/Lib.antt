@@ -1,0 +1,2 @@
+-- The promise of `names` leaves nothing free.
+pub mod OneAnswer

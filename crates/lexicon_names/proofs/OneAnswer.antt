@@ -1,0 +1,30 @@
+-- The promise of `names` leaves nothing free: of a text it allows one answer. Assumes nothing.
+use mathlib.Core.Bool.{Bool}
+use mathlib.Core.List.{List}
+use mathlib.Core.Path.{_≡_, sym, ap, _∙_, subst}
+use Prim.Native.Nat.{ℕ}
+use lib.ListN.{length}
+use Rattle.cd.specs.Diagrams.{Stored}
+use Rattle.cd.specs.declared.CdError.{CdError}
+use Rattle.cd.specs.declared.Node.{Node}
+use Rattle.group_names.specs.Named.{refusal, Names}
+use Rattle.group_names.specs.declared.Groups.{Groups}
+use Rattle.group_names.proofs.Listed.{names-once}
+use Rattle.lexicon.proofs.Fileable.{accepted-diagram}
+use Rattle.lexicon.proofs.OneAnswer.{not-both, one-refusal, one-diagram}
+use Rattle.parse.specs.Reading.{Accepted, read}
+use Rattle.tables.specs.Diagrams.{diagram}
+use Rattle.lexicon_names.specs.NamesText.{NamesText, refused, told}
+
+-- what is told of an accepted text
+pub told-of : {wish : Bool} {text : List ℕ} {r : Groups} {ns : List Node} {es : List Stored} → NamesText wish text r → read wish text ≡ Accepted ns es → Names (length ns) es r
+told-of (refused h e) k = absurd (not-both h k)
+told-of {r = r} (told h n) k = let (s, t) = one-diagram h k in rw (ap length s, t) at n
+
+pub one-answer : {wish : Bool} {text : List ℕ} {r s : Groups} → NamesText wish text r → NamesText wish text s → r ≡ s
+unfolding diagram
+one-answer (refused h e) (refused k q) = e ∙ ap refusal (one-refusal h k) ∙ sym q
+one-answer (refused h e) (told k n) = absurd (not-both h k)
+one-answer (told h n) (refused k q) = absurd (not-both k h)
+one-answer {wish} {text} (told {ns} {es} h n) (told k m) =
+    names-once (length ns) es (λ u v hu hv ne. accepted-diagram wish text ns es h .edges u v hu hv ne .den-pos) n (told-of (told k m) h)

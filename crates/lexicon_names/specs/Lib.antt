@@ -1,0 +1,2 @@
+-- Ticket K4: the promise of `names`.
+pub mod NamesText
