@@ -47,6 +47,11 @@ snoc-at gs g i h = go (decLt i (length gs))
     go (no l) = let e : i ≡ length gs = omega (arith, snoc-length gs g) in inr (e, ap (λ k. getD (gs ++ (g ∷ [])) k blank) e ∙ getD-append-seam gs g [] blank)
 
 module _ {n : ℕ} {es : List Stored} where
+  pub lists-short : {k : ℕ} {gs : List Group} → Lists n es k gs → length gs ≤ k
+  lists-short none = le-refl 0
+  lists-short (passed w o) = omega (arith, lists-short w)
+  lists-short (listed {k} {gs} {x} w low d) = omega (arith, snoc-length gs (group k x), lists-short w)
+
   pub entry-at : {k : ℕ} {gs : List Group} → Lists n es k gs → (i : ℕ) → i < length gs → Entry n es k (getD gs i blank)
   unfolding SnocAt
   entry-at none i h = absurd (not-suc-le-zero h)

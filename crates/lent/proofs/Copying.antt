@@ -1,11 +1,11 @@
 -- Elements stored one by one, and in runs of one length. Assumes nothing.
 use mathlib.Core.List.{List, [], _∷_, _++_, append-assoc, append-nil}
 use mathlib.Core.Path.{_≡_, refl, sym, ap, _∙_}
-use Prim.Native.Nat.{ℕ, suc, _+_, _*_, _≤_, _<_}
+use Prim.Native.Nat.{ℕ, suc, _+_, _-_, _*_, _≤_, _<_}
 use native.Mathlib.Nat.{add-zero}
 use native.Mathlib.Numerals.{add-one}
 use native.Mathlib.Omega.{arith}
-use lib.ListN.{length, take, getD, set, length-append}
+use lib.ListN.{length, take, getD, set, replicate, length-append}
 use lib.Seq.{sets, take-suc, take-all, length-take-le, length-sets}
 use Rattle.lent.specs.Shown.{flat}
 
@@ -29,6 +29,10 @@ module _ {A : Type 0} where
   -- behind n
   pub sets-behind : (l xs ys : List A) (at n : ℕ) → length xs ≡ n → sets (sets l at xs) (at + n) ys ≡ sets l at (xs ++ ys)
   sets-behind l xs ys at n e = sym (sets-append xs ys l at ∙ ap (λ k. sets (sets l at xs) (at + k) ys) e)
+
+  -- one of equal elements, of those from i to n
+  pub sets-equal : (l : List A) (d : A) (i n : ℕ) → i < n → sets l i (replicate (n - i) d) ≡ sets (set l i d) (i + 1) (replicate (n - (i + 1)) d)
+  sets-equal l d i n h = let e : n - i ≡ suc (n - (i + 1)) = omega arith in ap (λ k. sets l i (replicate k d)) e ∙ ap (λ k. sets (set l i d) k (replicate (n - (i + 1)) d)) (sym (add-one i))
 
 -- ---- runs of w elements, one for each element of a list, stored from `at` on
 

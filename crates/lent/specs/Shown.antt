@@ -2,7 +2,9 @@
 use mathlib.Core.List.{List, [], _∷_, _++_}
 use Prim.Native.Nat.{ℕ, _+_, _*_}
 use lib.Ieee.{Float}
+use lib.ListN.{take}
 use Rattle.float.specs.Pick.{pick}
+use Rattle.cd.specs.Arrays.{padded}
 use Rattle.cd.specs.Diagrams.{limit, pairLimit}
 use Rattle.cd.specs.declared.Cd.{Cd}
 use Rattle.cd.specs.declared.Pair.{Pair}
@@ -11,6 +13,9 @@ use Rattle.lexicon.specs.declared.Reading.{Reading}
 use Rattle.geometry.specs.declared.Generated.{Generated}
 use Rattle.geometry.specs.declared.Reflected.{Reflected}
 use Rattle.geometry.specs.declared.Square.{Square}
+use Rattle.group_names.specs.Names.{written}
+use Rattle.group_names.specs.declared.Group.{Group}
+use Rattle.group_names.specs.declared.Groups.{Groups}
 use Rattle.parse.specs.declared.Answer.{Answer}
 use Rattle.parse.specs.declared.Answer.the-variants as said
 use Rattle.parse.specs.declared.Read.{Read}
@@ -18,9 +23,12 @@ use Rattle.reflections.specs.declared.Matrix.{Matrix}
 use Rattle.tables.specs.Diagrams.{filed}
 use Rattle.lent.specs.Outcomes.{Outcome, Shows, Refuses}
 
--- how many elements a diagram, a matrix and reflections show
+-- how many elements a diagram, the names of its groups, a matrix and reflections show
 abbrev pub diagramLength : ℕ
 diagramLength = 2 * limit + 3 * pairLimit
+
+abbrev pub namesLength : ℕ
+namesLength = 4 * limit
 
 abbrev pub squareLength : ℕ
 squareLength = limit * limit
@@ -60,6 +68,17 @@ ofReading r = outcome (r .read .answer) (r .read .cd .count ∷ r .read .cd .edg
 -- of a record: nodes, edges
 abbrev pub ofRecord : Read → Outcome ℕ
 ofRecord r = outcome (r .answer) (r .cd .count ∷ r .cd .edges ∷ []) (numbersOf (r .cd))
+
+-- ---- the names of groups: the components are told
+
+-- a component: its lowest node, its name's letter and number, its group's order
+unfoldable pub groupNumbers : Group → List ℕ
+unfolding written
+groupNumbers g = g .node ∷ written (g .name) .letter ∷ written (g .name) .number ∷ g .order ∷ []
+
+-- the components, then zeros
+abbrev pub ofGroups : Groups → Outcome ℕ
+ofGroups g = outcome (g .answer) (g .count ∷ []) (padded 0 namesLength (flat groupNumbers (take (g .count) (g .at))))
 
 -- ---- matrices, mirrors, generators, reflections: the nodes are told
 

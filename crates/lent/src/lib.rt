@@ -9,13 +9,15 @@ use cd::SQUARE;
 use geometry::Generated;
 use geometry::Reflected;
 use geometry::Square;
+use group_names::Group;
+use group_names::Groups;
 use parse::Answer;
 use parse::Read;
 use reflections::Matrix;
 ghost use mathlib.Core.List.{List, _∷_};
 ghost use mathlib.Core.Path.{_≡_};
-ghost use Prim.Native.Nat.{ℕ, _+_, _*_, _≤_};
-ghost use lib.ListN.{length, getD};
+ghost use Prim.Native.Nat.{ℕ, _+_, _-_, _*_, _≤_};
+ghost use lib.ListN.{length, getD, take, replicate};
 ghost use lib.Seq.{sets};
 ghost use Rattle.cd.specs.Arrays.{padded};
 ghost use Rattle.cd.specs.Diagrams.{limit};
@@ -23,12 +25,15 @@ ghost use Rattle.cd.specs.Refusals.{numberOf};
 ghost use Rattle.parse.specs.declared.Answer.the-variants as said;
 ghost use Rattle.tables.specs.Tables.{IsNumber, Numbers};
 ghost use Rattle.lent.specs.Outcomes.{Lends};
-ghost use Rattle.lent.specs.Shown.{diagramLength, squareLength, reflectionsLength, outcome, flat, nodeNumbers, pairNumbers, numbersOf, entries, ofSquare, ofGenerated, ofReflected};
+ghost use Rattle.lent.specs.Shown.{diagramLength, namesLength, squareLength, reflectionsLength, outcome, flat, nodeNumbers, pairNumbers, numbersOf, groupNumbers, entries, ofGroups, ofSquare, ofGenerated, ofReflected};
 
 // How many numbers an answer and a diagram have; how many doubles a generator and reflections.
 pub const ANSWER: usize = 4;
 
 const DIAGRAM: usize = 2 * LIMIT + 3 * PAIRS;
+
+// Four numbers a component.
+const NAMES: usize = 4 * LIMIT;
 
 const GENERATOR: usize = LIMIT + 1;
 
@@ -140,6 +145,42 @@ fn put_diagram(out: &mut [u64], cd: Cd)
     put_pairs(out, pairs);
 }
 
+// A component's lowest node, its name's letter and number, its group's order.
+fn put_group(out: &mut [u64], at: usize, g: Group)
+    requires { ⌜ at + 4 ≤ length (now out) ⌝ }
+    ensures { λ _. ⌜ now (out .exit) ≡ sets (now (out .entry)) at (groupNumbers g) ⌝ }
+{
+    let x = g.name;
+    let w = group_names::written(x);
+    out[at] = g.node as u64;
+    out[at + 1] = w.letter as u64;
+    out[at + 2] = w.number;
+    out[at + 3] = g.order;
+}
+
+fn put_groups(out: &mut [u64], groups: [Group; LIMIT], n: usize)
+    requires { ⌜ (namesLength ≤ length (now out)) × (n ≤ limit) ⌝ }
+    ensures { λ _. ⌜ now (out .exit) ≡ sets (now (out .entry)) 0 (flat groupNumbers (take n groups)) ⌝ }
+{
+    let mut i = 0;
+    while i < n {
+        put_group(out, 4 * i, groups[i]);
+        i += 1;
+    }
+}
+
+// From `at` to the end of the names.
+fn put_zeros(out: &mut [u64], at: usize)
+    requires { ⌜ (at ≤ namesLength) × (namesLength ≤ length (now out)) ⌝ }
+    ensures { λ _. ⌜ now (out .exit) ≡ sets (now (out .entry)) at (replicate (namesLength - at) 0) ⌝ }
+{
+    let mut i = at;
+    while i < NAMES {
+        out[i] = 0;
+        i += 1;
+    }
+}
+
 // ---- what a call tells and shows, or what refuses it
 
 // A matrix or mirrors.
@@ -218,6 +259,26 @@ pub fn show_diagram(
             let cd = r.cd;
             put_diagram(out, cd);
             tell(f, answer)
+        }
+        Answer::Refused(e) => refuse(e, answer),
+    }
+}
+
+// The components, then zeros.
+pub fn show_groups(g: Groups, out: &mut [u64], answer: &mut [usize; ANSWER]) -> usize
+    requires { ⌜ g .count ≤ limit ⌝ }
+    ensures { λ r. ⌜ Lends (ofGroups g) (now (out .entry)) (now (out .exit)) (now (answer .exit)) r ⌝ }
+{
+    let a = g.answer;
+    match a {
+        Answer::Accepted => {
+            if out.len() < NAMES {
+                return refuse(CdError::ShortBuffer, answer);
+            }
+            let at = g.at;
+            put_groups(out, at, g.count);
+            put_zeros(out, 4 * g.count);
+            tell([0, g.count, 0, 0], answer)
         }
         Answer::Refused(e) => refuse(e, answer),
     }

@@ -1,4 +1,4 @@
--- The promises of the calls whose promises in Rattle are more than an equation: some answer that `lexicon` or `shelf` promises is what is told and shown.
+-- The promises of the calls whose promises in Rattle are more than an equation: some answer that `lexicon`, `lexicon_names` or `shelf` promises is what is told and shown.
 use mathlib.Core.Bool.{Bool, not}
 use mathlib.Core.List.{List, [], _∷_}
 use mathlib.Core.Path.{_≡_}
@@ -7,11 +7,13 @@ use lib.Dec.{eqb}
 use lib.ListN.{getD}
 use Rattle.float.specs.Pick.{pick}
 use Rattle.cd.specs.Diagrams.{limit}
+use Rattle.group_names.specs.declared.Groups.{Groups}
 use Rattle.lexicon.specs.Files.{Files}
 use Rattle.lexicon.specs.Reads.{Reads}
 use Rattle.lexicon.specs.ReadsRecord.{ReadsRecord}
 use Rattle.lexicon.specs.declared.Filed.{Filed}
 use Rattle.lexicon.specs.declared.Reading.{Reading}
+use Rattle.lexicon_names.specs.NamesText.{NamesText}
 use Rattle.parse.specs.declared.Answer.{Answer}
 use Rattle.parse.specs.declared.Answer.the-variants as said
 use Rattle.parse.specs.declared.Read.{Read}
@@ -23,7 +25,7 @@ use Rattle.shelf.specs.declared.Added.{Added}
 use Rattle.shelf.specs.declared.Checked.{Checked}
 use Rattle.shelf.specs.declared.Found.{Found}
 use Rattle.lent.specs.Outcomes.{Lends, told}
-use Rattle.lent.specs.Shown.{outcome, ofReading, ofRecord}
+use Rattle.lent.specs.Shown.{outcome, ofReading, ofRecord, ofGroups}
 
 -- the wish for infinite lengths as a number: 0 without it, any other with it
 abbrev pub wished : ℕ → Bool
@@ -38,6 +40,11 @@ pub record ReadsRecordForC (bytes out out′ answer′ : List ℕ) (r : ℕ) : T
   pub read : Read
   pub reads : ReadsRecord bytes read
   pub lends : Lends (ofRecord read) out out′ answer′ r
+
+pub record NamesForC (wish : Bool) (text out out′ answer′ : List ℕ) (r : ℕ) : Type 0 where
+  pub groups : Groups
+  pub names : NamesText wish text groups
+  pub lends : Lends (ofGroups groups) out out′ answer′ r
 
 -- numbers that an answer replaces and a refusal leaves
 unfoldable pub replaced : Answer → List ℕ → List ℕ → List ℕ

@@ -9,7 +9,7 @@ ghost use Rattle.lent.specs.Shown.{ofSquare, ofGenerated, ofReflected};
 ghost use Rattle.geometry.specs.Points.{generatorOfText, wallGeneratorOfText, reflectionsOfText};
 ghost use Rattle.geometry.specs.Squares.{matrixOf, mirrorsOf, wallsOf, familyMatrixOf, familyMirrorsOf, familyWallsOf};
 ghost use Rattle.parse.specs.Reading.{read};
-ghost use Rattle.lexicon_c.specs.Calls.{wished, ReadsForC, FilesForC, ReadsRecordForC, Tells, foundNumbers, ChecksForC, FindsForC, BisectsForC, AddsForC};
+ghost use Rattle.lexicon_c.specs.Calls.{wished, ReadsForC, FilesForC, ReadsRecordForC, NamesForC, Tells, foundNumbers, ChecksForC, FindsForC, BisectsForC, AddsForC};
 
 #[no_mangle]
 pub extern "C" fn lexicon_read(
@@ -167,6 +167,18 @@ pub extern "C" fn lexicon_family_walls(
     ensures { λ r. ⌜ Lends (ofSquare (familyWallsOf letter size)) (now (out .entry)) (now (out .exit)) (now (answer .exit)) r ⌝ }
 {
     lent::show_square(geometry::family_walls(letter, size), out, answer)
+}
+
+#[no_mangle]
+pub extern "C" fn lexicon_names(
+    text: &[u8],
+    wish: usize,
+    out: &mut [u64],
+    answer: &mut [usize; ANSWER],
+) -> usize
+    ensures { λ r. ⌜ NamesForC (wished wish) (now (text .entry)) (now (out .entry)) (now (out .exit)) (now (answer .exit)) r ⌝ }
+{
+    lent::show_groups(lexicon_names::names(text, wish != 0), out, answer)
 }
 
 // ---- shelf files
