@@ -72,16 +72,16 @@ label (I2 p) = p
 
 pub name-shape : (x : Name) → isName x ≡ true → IsShape (rank x) (branch x) (start x) (label x)
 unfolding isName rank branch start label
-name-shape (A n) h = chained (leb-true 1 n h) refl refl (omega arith) (λ e. refl)
-name-shape (B n) h = chained (omega (arith, leb-true 2 n h)) refl refl (omega arith) (λ e. absurd (omega (arith, leb-true 2 n h)))
-name-shape (D n) h = forked (leb-true 4 n h) refl refl refl
+name-shape (A n) h = chained (omega (arith, leb-true _ n h)) refl refl (omega arith) (λ e. refl)
+name-shape (B n) h = chained (omega (arith, leb-true _ n h)) refl refl (omega arith) (λ e. absurd (omega (arith, leb-true _ n h)))
+name-shape (D n) h = forked (omega (arith, leb-true _ n h)) refl refl refl
 name-shape E6 h = branched (omega arith) refl refl refl
 name-shape E7 h = branched (omega arith) refl refl refl
 name-shape E8 h = branched (omega arith) refl refl refl
 name-shape F4 h = centred refl refl refl refl
 name-shape H3 h = chained (omega arith) refl refl (omega arith) (λ e. absurd (omega arith))
 name-shape H4 h = chained (omega arith) refl refl (omega arith) (λ e. absurd (omega arith))
-name-shape (I2 p) h = chained (omega arith) refl refl (omega (arith, leb-true 5 p h)) (λ e. absurd (omega arith))
+name-shape (I2 p) h = chained (omega arith) refl refl (omega (arith, leb-true _ p h)) (λ e. absurd (omega arith))
 
 -- ---- the shape tells the name
 
@@ -105,7 +105,7 @@ decoded E8 h = refl
 decoded F4 h = refl
 decoded H3 h = refl
 decoded H4 h = refl
-decoded (I2 p) h = rw (ne-eqb p 3 (λ e. omega (arith, leb-true 5 p h)), ne-eqb p 4 (λ e. omega (arith, leb-true 5 p h)))
+decoded (I2 p) h = rw (ne-eqb p 3 (λ e. omega (arith, leb-true _ p h)), ne-eqb p 4 (λ e. omega (arith, leb-true _ p h)))
 
 pub same-name : {x y : Name} → isName x ≡ true → isName y ≡ true → rank x ≡ rank y → branch x ≡ branch y → start x ≡ start y → label x ≡ label y → x ≡ y
 same-name {x} {y} hx hy n b s l = sym (decoded x hx) ∙ (λ i. decode (n i) (b i) (s i) (l i)) ∙ decoded y hy
