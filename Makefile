@@ -87,6 +87,7 @@ models: oracle
 	@python3 oracle/filing.py
 	@python3 oracle/counts.py
 	@python3 oracle/shelf.py
+	@python3 oracle/names.py
 
 oracle:
 	@oracle/build

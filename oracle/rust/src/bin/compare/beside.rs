@@ -13,6 +13,7 @@ use crate::{
     dice::mix,
     expected::{self, Reading},
     figures::{Figure, ReadBack, RECORD},
+    names,
     port::{bits, short, Asked, Asking, Call, Port, Want, SPARE, SQUARE, WISHES},
     records,
     run::{self, Tally, Work},
@@ -40,6 +41,8 @@ const WALLS_ALONE: usize = 102;
 const NO_WALLS: usize = 103;
 const MIRRORS_ALONE: usize = 104;
 const WALLS_INFINITE: usize = 105;
+const NAMED: usize = 106;
+const NAMELESS: usize = 107;
 
 const SEEN: [&str; 4] = ["reads it", "refuses otherwise", "panics", "takes no such bytes"];
 
@@ -80,6 +83,8 @@ fn labels() -> Vec<String> {
     labels.push("15, no walls".into());
     labels.push("  no walls, but mirrors".into());
     labels.push("16, an infinite length, of the generator over the walls".into());
+    labels.push("with a name for each component".into());
+    labels.push("21, a component that no name fits".into());
     labels
 }
 
@@ -187,6 +192,7 @@ impl Beside<'_> {
         self.check(Call::Reflections, asking, want, turned(window, 4))?;
         self.check(Call::Walls, asking, want, turned(window, 8))?;
         self.check(Call::WallGenerator, asking, want, turned(window, 9))?;
+        self.check(Call::Names, asking, want, turned(window, 10))?;
         let len = short(RECORD, turned(window, 5)).unwrap_or(RECORD + window % SPARE);
         self.no_record(asking, len, answer, window)
     }
@@ -222,6 +228,9 @@ impl Beside<'_> {
         let walls = walls::walls(&cox);
         count_walls(mirrors.is_ok(), walls.is_ok(), tally);
         self.walls(asking, cd, &walls, window, tally)?;
+        let (answer, out) = names::due(&names::components(cd));
+        tally.count(if answer[0] == 0 { NAMED } else { NAMELESS });
+        self.check(Call::Names, asking, Want { answer, out: &out }, turned(window, 10))?;
         self.record(asking, cd, window, tally)
     }
 

@@ -11,6 +11,7 @@ use crate::{
 pub const SQUARE: usize = 81;
 pub const GENERATOR: usize = 10;
 pub const REFLECTIONS: usize = 729;
+pub const NAMES: usize = 36;
 
 #[link(name = "lexicon_c", kind = "static")]
 extern "C" {
@@ -80,6 +81,14 @@ extern "C" {
         out_len: usize,
         answer: *mut usize,
     ) -> usize;
+    fn lexicon_names(
+        text: *const u8,
+        text_len: usize,
+        wish: usize,
+        out: *mut u64,
+        out_len: usize,
+        answer: *mut usize,
+    ) -> usize;
     fn lexicon_family_matrix(letter: u8, size: usize, out: *mut f64, out_len: usize, answer: *mut usize) -> usize;
     fn lexicon_family_mirrors(letter: u8, size: usize, out: *mut f64, out_len: usize, answer: *mut usize) -> usize;
     fn lexicon_family_walls(letter: u8, size: usize, out: *mut f64, out_len: usize, answer: *mut usize) -> usize;
@@ -129,6 +138,7 @@ pub enum Call<'a> {
     Reflections(Asked<'a>),
     Walls(Asked<'a>),
     WallGenerator(Asked<'a>),
+    Names(Asked<'a>),
     FamilyMatrix(u8, usize),
     FamilyMirrors(u8, usize),
     FamilyWalls(u8, usize),
@@ -147,6 +157,7 @@ impl Call<'_> {
             Self::Reflections(_) => ("lexicon_reflections", REFLECTIONS),
             Self::Walls(_) => ("lexicon_walls", SQUARE),
             Self::WallGenerator(_) => ("lexicon_wall_generator", GENERATOR),
+            Self::Names(_) => ("lexicon_names", NAMES),
             Self::FamilyMatrix(..) => ("lexicon_family_matrix", SQUARE),
             Self::FamilyMirrors(..) => ("lexicon_family_mirrors", SQUARE),
             Self::FamilyWalls(..) => ("lexicon_family_walls", SQUARE),
@@ -250,6 +261,7 @@ impl Port {
                 Call::Reflections(asked) => of_text(lexicon_reflections, asked),
                 Call::Walls(asked) => of_text(lexicon_walls, asked),
                 Call::WallGenerator(asked) => of_text(lexicon_wall_generator, asked),
+                Call::Names(Asked { text, wish }) => lexicon_names(input(text), text.len(), wish, words, len, answer),
                 Call::FamilyMatrix(letter, size) => lexicon_family_matrix(letter, size, doubles, len, answer),
                 Call::FamilyMirrors(letter, size) => lexicon_family_mirrors(letter, size, doubles, len, answer),
                 Call::FamilyWalls(letter, size) => lexicon_family_walls(letter, size, doubles, len, answer),
