@@ -37,7 +37,7 @@ unfoldable pub every : (ℕ → Bool) → ℕ → Bool
 every f zero = true
 every f (suc n) = let r = every f n in f n && r
 
-every-at : (f : ℕ → Bool) (n i : ℕ) → every f n ≡ true → i < n → f i ≡ true
+pub every-at : (f : ℕ → Bool) (n i : ℕ) → every f n ≡ true → i < n → f i ≡ true
 unfolding every
 every-at f zero i h l = absurd (not-suc-le-zero l)
 every-at f (suc n) i h l =
@@ -51,7 +51,7 @@ abbrev pub implies : Bool → Bool → Bool
 implies true b = b
 implies false b = true
 
-implied : (a b : Bool) → implies a b ≡ true → a ≡ true → b ≡ true
+pub implied : (a b : Bool) → implies a b ≡ true → a ≡ true → b ≡ true
 implied true b h e = h
 implied false b h e = absurd (false≢true e)
 
@@ -100,7 +100,7 @@ module _ {ns : List Node} {es : List Stored} where
 
 -- ---- not minimal
 
-path-stays : {n : ℕ} {es : List Stored} {i j : ℕ} (set : ℕ → Bool) → closed n es set ≡ true → Path (Linked n es) i j → set i ≡ true → set j ≡ true
+pub path-stays : {n : ℕ} {es : List Stored} {i j : ℕ} (set : ℕ → Bool) → closed n es set ≡ true → Path (Linked n es) i j → set i ≡ true → set j ≡ true
 path-stays set h here s = s
 path-stays {n} {es} set h (on {i} {j} e p) s =
     let c = every-at (keeps es set i) n j (every-at (λ i. every (keeps es set i) n) n i h (e .first)) (e .other) in

@@ -1,2 +1,3 @@
--- Ticket K4: the promise of `names`.
+-- Ticket K4: the promise of `names`, and texts to try.
 pub mod NamesText
+pub mod Texts
