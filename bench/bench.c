@@ -17,6 +17,7 @@ int main(int argc, char **argv)
     filing_rows();
     shelf_rows();
     cox_rows();
+    names_rows();
     float_rows();
     for (int i = 2; i < argc; i++)
         command_row(argv[i]);

@@ -7,6 +7,7 @@ void reading_rows(const char *path);
 void filing_rows(void);
 void shelf_rows(void);
 void cox_rows(void);
+void names_rows(void);
 void float_rows(void);
 
 // The file holds the headwords that bench/headwords writes.
