@@ -18,10 +18,10 @@ use Rattle.filing.proofs.Numberings.{Found, onto}
 use Rattle.group_names.specs.declared.Name.{Name}
 use Rattle.group_search.specs.Steps.{Agrees, Suits, Embeds, GoesOn, Ready, labelCount}
 
-put-same : (p : List ℕ) (k v : ℕ) → k < length p → at (set p k v) k ≡ v
+pub put-same : (p : List ℕ) (k v : ℕ) → k < length p → at (set p k v) k ≡ v
 put-same p k v h = getD-set-same p k v 0 h
 
-put-below : (p : List ℕ) (k v i : ℕ) → i < k → at (set p k v) i ≡ at p i
+pub put-below : (p : List ℕ) (k v i : ℕ) → i < k → at (set p k v) i ≡ at p i
 put-below p k v i h = getD-set-other p k i v 0 (omega arith)
 
 -- the nodes below v have been tried at place k: what goes on from the first k places of p has none of them there

@@ -25,6 +25,10 @@ use Rattle.group_search.specs.declared.Known.the-variants.{Is, Nothing}
 abbrev pub wholeNumber : ℕ → ℕ
 wholeNumber m = m * 2 ^ 32 + 1
 
+-- for each of the first k places what the node at place k is to be joined by to the one there
+abbrev pub Wants : Name → ℕ → List ℕ → Type 0
+Wants x k wanted = (i : ℕ) → i < k → at wanted i ≡ wholeNumber (entry x i k)
+
 -- u at place i and v at place k are two nodes, and joined as the name wants it
 pub record Agrees (N : ℕ) (pairs : List ℕ) (x : Name) (i k u v : ℕ) : Type 0 where
   pub other : u ≢ v

@@ -20,8 +20,9 @@ ghost use Rattle.filing.specs.Numberings.{at};
 ghost use Rattle.tables.specs.Diagrams.{diagram};
 ghost use Rattle.tables.specs.Tables.{IsKept};
 ghost use Rattle.group_names.specs.declared.Group.{Group as AGroup};
+ghost use Rattle.group_names.specs.declared.Name.{Name as AName};
 ghost use Rattle.group_names.specs.Named.{blank, listing, refusal as the-refusal, Names};
-ghost use Rattle.group_search.specs.Steps.{wholeNumber, Suits, GoesOn, Ready, labelCount, Placed, Bond, Mirrored, candidates as the-candidates, Tells, Meets};
+ghost use Rattle.group_search.specs.Steps.{wholeNumber, Wants, Suits, GoesOn, Ready, labelCount, Placed, Bond, Mirrored, candidates as the-candidates, Tells, Meets};
 
 // ---- the search
 
@@ -32,11 +33,31 @@ fn whole(m: u32) -> u64
     m as u64 * 0x1_0000_0000 + 1
 }
 
-// Whether v can stand at place k: it is none of the nodes at the places before, and joined to each as the name wants it. (From the last place down, since
-// most nodes of a family are joined to the one before.)
-fn suits(pairs: &[u64; SQUARE], x: Name, p: [usize; LIMIT], k: usize, v: usize) -> bool
-    requires { ⌜ (k < limit) × (v < limit) × ((i : ℕ) → i < k → at p i < limit) ⌝ }
-    ensures { λ r. ⌜ Decides (Suits limit (now (pairs .entry)) x (at p) k v) r ⌝ }
+// What the node at place k is to be joined by to those at the places before.
+fn wanted(x: Name, k: usize) -> [u64; LIMIT]
+    requires { ⌜ k < limit ⌝ }
+    ensures { λ r. ⌜ Wants x k r ⌝ }
+{
+    let mut out = [0; LIMIT];
+    let mut i = 0;
+    while i < k {
+        out[i] = whole(group_names::entry(x, i, k));
+        i += 1;
+    }
+    out
+}
+
+// Whether v can stand at place k: it is none of the nodes at the places before, and joined to each as is wanted. (From the last place down, since most nodes
+// of a family are joined to the one before.)
+fn suits(
+    pairs: &[u64; SQUARE],
+    wanted: &[u64; LIMIT],
+    p: &[usize; LIMIT],
+    k: usize,
+    v: usize,
+) -> bool
+    requires { ⌜ (k < limit) × (v < limit) × ((i : ℕ) → i < k → at (now p) i < limit) ⌝ }
+    ensures { λ r. ⌜ ((x : AName) → Wants x k (now (wanted .entry)) → Decides (Suits limit (now (pairs .entry)) x (at (now (p .entry))) k v) r) ⌝ }
 {
     let mut i = k;
     while 0 < i {
@@ -45,7 +66,7 @@ fn suits(pairs: &[u64; SQUARE], x: Name, p: [usize; LIMIT], k: usize, v: usize) 
         if u == v {
             return false;
         }
-        if tables::pair_at(pairs, u, v) != whole(group_names::entry(x, i, k)) {
+        if tables::pair_at(pairs, u, v) != wanted[i] {
             return false;
         }
     }
@@ -69,10 +90,11 @@ fn goes_on(
     if k == m {
         return true;
     }
+    let wanted = wanted(x, k);
     let mut v = 0;
     while v < n {
         if of[v] == c {
-            if suits(pairs, x, p, k, v) {
+            if suits(pairs, &wanted, &p, k, v) {
                 let mut q = p;
                 q[k] = v;
                 if goes_on(pairs, of, n, c, x, m, k + 1, q) {

@@ -4,6 +4,7 @@ use mathlib.Core.Logic.{⊎-elim}
 use mathlib.Core.Path.{refl, sym, _∙_}
 use native.Mathlib.Omega.{arith}
 use Rattle.cd.specs.Diagrams.{limit}
+use Rattle.group_search.specs.Steps.{Wants}
 use Rattle.group_search.proofs.Placing.{Tried, ready-deeper, all-placed, tried-none, tried-label, tried-unsuited, tried-deeper, goes-deeper, tried-all}
 use Prim.Native.Nat.{ℕ, _-_, _≤_, _<_}
 use borrow.Fn.Kinds.{In}
@@ -12,6 +13,7 @@ use Rattle.group_search.proofs.goes_on.Reads as goes-on
 use Rattle.group_search.proofs.goes_on.Kinds as goes-on-kinds
 use Rattle.group_search.proofs.+goes_on.Lts-goes_on as goes-on-lts
 use Rattle.group_search.proofs.suits.Reads as suits-reads
+use Rattle.group_search.proofs.wanted.Reads as wanted-reads
 use Rattle.group_search.proofs.+goes_on.{statement}
 use Rattle.group_search.proofs.+goes_on.Tie.{close}
 
@@ -25,26 +27,33 @@ abbrev goes-on-below : ℕ → In 2 goes-on-kinds.ps
 goes-on-below t = and 2 goes-on-kinds.ps (falls 2 goes-on-kinds.ps _<_ μ-goes-on t) goes-on.Pre
 
 abbrev known : ℕ → goes-on-lts.Claims
-known t = (suits-reads.Asked, suits-reads.Learnt, goes-on-below t, goes-on.Post)
+known t = (wanted-reads.Asked, wanted-reads.Learnt, suits-reads.Asked, suits-reads.Learnt, goes-on-below t, goes-on.Post)
 
 abbrev Inv : goes-on-lts.InvT-loop
-Inv pairs of n c x m k p v₀ v = (v ≤ n) × Tried limit pairs of n c x m k p v
+Inv pairs of n c x m k p wanted v₀ v = (v ≤ n) × Tried limit pairs of n c x m k p v
 
 abbrev μ : goes-on-lts.MeasureT-loop
-μ pairs of n c x m k p v₀ v = n - v
+μ pairs of n c x m k p wanted v₀ v = n - v
 
 -- the function's entry, from a turn of the loop, where a place is left
 abbrev start : (t : ℕ) → goes-on-lts.In-loop (known t) (goes-on-at t) goes-on.Post Inv μ → goes-on-lts.Start (known t) (goes-on-at t) goes-on.Post Inv μ
-start t c = c .before .before .before
+start t c = c .before .before .before .before
 
 below : (t : ℕ) (c : goes-on-lts.In-loop (known t) (goes-on-at t) goes-on.Post Inv μ) → start t c .args .k < start t c .args .m
 below t c = omega (arith, start t c .pre .1 .depth)
 
+-- what is wanted at place k
+wants : (t : ℕ) (c : goes-on-lts.In-loop (known t) (goes-on-at t) goes-on.Post Inv μ) → Wants (start t c .args .x) (start t c .args .k) (c .before .before .wanted .result)
+wants t c = c .before .before .wanted .ensures
+
 goes-on-returns : (t : ℕ) → goes-on-lts.Need-returns (known t) (goes-on-at t) goes-on.Post Inv μ
 goes-on-returns t c = record { only-when = λ _. all-placed (c .before .pre .1) (c .if1 .taken); when = λ _. refl }
 
+goes-on-wanted-requires : (t : ℕ) → goes-on-lts.Need-wanted-requires (known t) (goes-on-at t) goes-on.Post Inv μ
+goes-on-wanted-requires t c κs = let r = c .before .pre .1 in omega (arith, r .depth, r .small)
+
 goes-on-loop-holds : (t : ℕ) → goes-on-lts.Need-loop-holds (known t) (goes-on-at t) goes-on.Post Inv μ
-goes-on-loop-holds t c = (omega arith, tried-none (c .before .pre .1))
+goes-on-loop-holds t c = (omega arith, tried-none (c .before .before .pre .1))
 
 goes-on-mul-if2 : (t : ℕ) → goes-on-lts.Need-mul-if2 (known t) (goes-on-at t) goes-on.Post Inv μ
 goes-on-mul-if2 t c = let r = start t c .pre .1 in omega (arith, r .few)
@@ -54,28 +63,28 @@ goes-on-element-copy-out-if2 t c = let r = start t c .pre .1 in omega (arith, r 
 
 goes-on-suits-requires : (t : ℕ) → goes-on-lts.Need-suits-requires (known t) (goes-on-at t) goes-on.Post Inv μ
 goes-on-suits-requires t c κs =
-    let i = c .before .before in
+    let i = c .before .before .before .before in
     let r = start t i .pre .1 in
     (omega (arith, below t i, r .small), omega (arith, r .few), λ j h. omega (arith, r .filled .within j h, r .few))
 
 goes-on-mul-q : (t : ℕ) → goes-on-lts.Need-mul-q (known t) (goes-on-at t) goes-on.Post Inv μ
-goes-on-mul-q t c = let i = c .before .before .before .before in omega (arith, below t i, start t i .pre .1 .small)
+goes-on-mul-q t c = let i = c .before .before .before .before .before .before in omega (arith, below t i, start t i .pre .1 .small)
 
 goes-on-array-write-q : (t : ℕ) → goes-on-lts.Need-array-write-q (known t) (goes-on-at t) goes-on.Post Inv μ
-goes-on-array-write-q t c = let i = c .before .before .before .before in omega (arith, below t i, start t i .pre .1 .small)
+goes-on-array-write-q t c = let i = c .before .before .before .before .before .before in omega (arith, below t i, start t i .pre .1 .small)
 
 goes-on-add-goes-on : (t : ℕ) → goes-on-lts.Need-add-goes-on (known t) (goes-on-at t) goes-on.Post Inv μ
-goes-on-add-goes-on t c = let i = c .before .before .before .before in omega (arith, below t i, start t i .pre .1 .small)
+goes-on-add-goes-on t c = let i = c .before .before .before .before .before .before in omega (arith, below t i, start t i .pre .1 .small)
 
 goes-on-goes-on-requires : (t : ℕ) → goes-on-lts.Need-goes-on-requires (known t) (goes-on-at t) goes-on.Post Inv μ
 goes-on-goes-on-requires t c κs =
-    let i = c .before .before .before .before in
-    let suited = c .before .suits .ensures .only-when (c .if3 .taken) in
-    (omega (arith, below t i), ready-deeper (start t i .pre .1) (below t i) (i .loop-test .taken) (c .before .before .if2 .taken) suited)
+    let i = c .before .before .before .before .before .before in
+    let suited = c .before .suits .ensures _ (wants t i) .only-when (c .if3 .taken) in
+    (omega (arith, below t i), ready-deeper (start t i .pre .1) (below t i) (i .loop-test .taken) (c .before .before .before .before .if2 .taken) suited)
 
 goes-on-returns-2 : (t : ℕ) → goes-on-lts.Need-returns-2 (known t) (goes-on-at t) goes-on.Post Inv μ
 goes-on-returns-2 t c =
-    let i = c .before .before .before .before .before .before in
+    let i = c .before .before .before .before .before .before .before .before in
     record { only-when = λ _. goes-deeper (start t i .pre .1) (below t i) (i .before .loop .inv .1) (c .before .goes-on .ensures .only-when (c .if4 .taken)); when = λ _. refl }
 
 goes-on-add-v : (t : ℕ) → goes-on-lts.Need-add-v (known t) (goes-on-at t) goes-on.Post Inv μ
@@ -90,16 +99,16 @@ goes-on-loop-again t c =
     let r = start t i .pre .1 in (
       omega arith,
       ⊎-elim
-          (λ w. tried-deeper r (below t i) (i .before .loop .inv .1) (λ g. true≢false (sym (w .3 .ensures .when g) ∙ w .4 .left)))
+          (λ w. tried-deeper r (below t i) (i .before .loop .inv .1) (λ g. true≢false (sym (w .5 .ensures .when g) ∙ w .6 .left)))
           (⊎-elim
-          (λ w. tried-unsuited r (below t i) (i .before .loop .inv .1) (λ s. true≢false (sym (w .1 .ensures .when s) ∙ w .2 .left)))
+          (λ w. tried-unsuited r (below t i) (i .before .loop .inv .1) (λ s. true≢false (sym (w .3 .ensures _ (wants t i) .when s) ∙ w .4 .left)))
           (λ w. tried-label r (below t i) (i .before .loop .inv .1) (w .left)))
           (c .if2 .came),
     )
 
 goes-on-returns-3 : (t : ℕ) → goes-on-lts.Need-returns-3 (known t) (goes-on-at t) goes-on.Post Inv μ
 goes-on-returns-3 t c =
-    let s = c .before .before .before in
+    let s = c .before .before .before .before in
     let hk : s .args .k < s .args .m = omega (arith, s .pre .1 .depth) in
     record { only-when = λ e. absurd (true≢false (sym e)); when = λ g. absurd (tried-all (s .pre .1) hk (c .before .loop .inv .1) (c .loop-test .left) g) }
 
@@ -110,6 +119,7 @@ pub +goes-on-spec : {M : Type 1} → statement M
     Inv
     μ
     (goes-on-returns t)
+    (goes-on-wanted-requires t)
     (goes-on-loop-holds t)
     (goes-on-mul-if2 t)
     (goes-on-element-copy-out-if2 t)
