@@ -1,5 +1,5 @@
-/* Coxeter diagrams in line notation, their filing records, and files of records: the calls of crates/lexicon, geometry and shelf for C, proved in
- * crates/lexicon_c.
+/* Coxeter diagrams in line notation, their filing records, the names of their groups, and files of records: the calls of crates/lexicon, geometry,
+ * lexicon_names and shelf for C, proved in crates/lexicon_c.
  *
  * Each call takes any text, record, file, family letter and size, and any length of buffer, and ends with an answer or with a refusal. It returns 0 for an
  * answer, or the refusal's number, keeps nothing but the processor's floating-point flags, allocates nothing, and may be called from any thread; 20 KB of
@@ -36,6 +36,7 @@
  *   19      a place of a file that can't be read or is not     place: the first such
  *           greater than the one before
  *   20      a record that is already on the shelf              place: the record's
+ *   21      a component that no name fits                      node: the component's lowest
  *   22      a well laid out record that is not the smallest
  *   23      an infinite length that was not wished             position: the literal's last byte
  *
@@ -63,7 +64,8 @@ enum {
     LEXICON_DIAGRAM = 153,     /* numbers of a diagram */
     LEXICON_SQUARE = 81,       /* doubles of a matrix, of mirrors or of walls */
     LEXICON_GENERATOR = 10,    /* doubles of a generator */
-    LEXICON_REFLECTIONS = 729  /* doubles of reflections */
+    LEXICON_REFLECTIONS = 729, /* doubles of reflections */
+    LEXICON_NAMES = 36         /* numbers of the names of groups */
 };
 
 /* The diagram of a text. Tells the nodes, the stored edges, and 1 if the diagram is minimal, else 0.
@@ -136,6 +138,27 @@ size_t lexicon_family_mirrors(uint8_t letter, size_t size, double *out, size_t o
 /* The walls of a family, laid out as for lexicon_mirrors. Tells the nodes.
  * Refuses with 17, 15 and 12. */
 size_t lexicon_family_walls(uint8_t letter, size_t size, double *out, size_t out_len, size_t answer[LEXICON_ANSWER]);
+
+/* The finite group of each component of a text's diagram: its name in Coxeter's list and its order. The components, over stored edges, come by rising lowest
+ * node. Component i has, from out[4 * i] on, its lowest node, its name's letter in ASCII, the number behind the letter, and the group's order; past the
+ * last component zeros. Tells the components; a text without nodes has none.
+ *
+ *   name                    letter  number   order
+ *   An, n from 1 on         'A'     n        (n + 1)!
+ *   Bn, n from 2 on         'B'     n        2^n n!
+ *   Dn, n from 4 on         'D'     n        2^(n - 1) n!
+ *   E6, E7, E8              'E'     6, 7, 8  51840, 2903040, 696729600
+ *   F4                      'F'     4        1152
+ *   H3, H4                  'H'     3, 4     120, 14400
+ *   I2(p), whole p >= 5     'I'     p        2 p
+ *
+ * A component has a name exactly when some renumbering carries its edges onto the name's, and it never has two. So an editor may rely on this:
+ *   - Rings, lengths and loops play no part, and a fraction counts in its lowest terms: 10/2 is 5. Two nodes joined by 3 are A2, by 4 B2.
+ *   - The group of several components is their product, and its order the product of their orders, which may exceed 64 bits.
+ *   - 21 names the first component that no name fits, and no other is told then. Its group is infinite, or an edge of it is a fraction such as 5/2.
+ *   - The tolerance of mirrors plays no part: x4294967295o is I2(4294967295), though its mirrors are refused with 15.
+ * Refuses with 1 to 11, 23, 21 and 12. It takes less than 30 us. */
+size_t lexicon_names(const uint8_t *text, size_t text_len, size_t wish, uint64_t *out, size_t out_len, size_t answer[LEXICON_ANSWER]);
 
 /* ---- shelf files
  *

@@ -39,6 +39,7 @@ struct input {
 };
 
 // A call has one of these forms, or is the only one of its form.
+typedef size_t to_numbers(const uint8_t *text, size_t len, size_t wish, uint64_t *out, size_t out_len, size_t answer[LEXICON_ANSWER]);
 typedef size_t to_doubles(const uint8_t *text, size_t len, size_t wish, double *out, size_t out_len, size_t answer[LEXICON_ANSWER]);
 typedef size_t of_family(uint8_t letter, size_t size, double *out, size_t out_len, size_t answer[LEXICON_ANSWER]);
 typedef size_t in_file(const uint8_t *file, size_t file_len, const uint8_t *bytes, size_t len, size_t answer[LEXICON_ANSWER]);
@@ -47,14 +48,16 @@ struct call {
     const char *name;
     size_t element; // the bytes of an element of its buffer
     size_t writes;  // the elements that it writes, besides those of a file
+    to_numbers *to_numbers;
     to_doubles *to_doubles;
     of_family *of_family;
     in_file *in_file;
 };
 
-static const struct call read_text = {"lexicon_read", sizeof(uint64_t), LEXICON_DIAGRAM, NULL, NULL, NULL};
-static const struct call write_record = {"lexicon_write_record", sizeof(uint8_t), LEXICON_RECORD, NULL, NULL, NULL};
-static const struct call read_record = {"lexicon_read_record", sizeof(uint64_t), LEXICON_DIAGRAM, NULL, NULL, NULL};
+static const struct call read_text = {"lexicon_read", sizeof(uint64_t), LEXICON_DIAGRAM, .to_numbers = lexicon_read};
+static const struct call names = {"lexicon_names", sizeof(uint64_t), LEXICON_NAMES, .to_numbers = lexicon_names};
+static const struct call write_record = {"lexicon_write_record", sizeof(uint8_t), LEXICON_RECORD, NULL, NULL, NULL, NULL};
+static const struct call read_record = {"lexicon_read_record", sizeof(uint64_t), LEXICON_DIAGRAM, NULL, NULL, NULL, NULL};
 static const struct call matrix = {"lexicon_matrix", sizeof(double), LEXICON_SQUARE, .to_doubles = lexicon_matrix};
 static const struct call mirrors = {"lexicon_mirrors", sizeof(double), LEXICON_SQUARE, .to_doubles = lexicon_mirrors};
 static const struct call walls = {"lexicon_walls", sizeof(double), LEXICON_SQUARE, .to_doubles = lexicon_walls};
@@ -64,12 +67,12 @@ static const struct call reflections = {"lexicon_reflections", sizeof(double), L
 static const struct call family_matrix = {"lexicon_family_matrix", sizeof(double), LEXICON_SQUARE, .of_family = lexicon_family_matrix};
 static const struct call family_mirrors = {"lexicon_family_mirrors", sizeof(double), LEXICON_SQUARE, .of_family = lexicon_family_mirrors};
 static const struct call family_walls = {"lexicon_family_walls", sizeof(double), LEXICON_SQUARE, .of_family = lexicon_family_walls};
-static const struct call shelf_check = {"lexicon_shelf_check", sizeof(uint8_t), 0, NULL, NULL, NULL};
+static const struct call shelf_check = {"lexicon_shelf_check", sizeof(uint8_t), 0, NULL, NULL, NULL, NULL};
 static const struct call shelf_find = {"lexicon_shelf_find", sizeof(uint8_t), 0, .in_file = lexicon_shelf_find};
 static const struct call shelf_bisect = {"lexicon_shelf_bisect", sizeof(uint8_t), 0, .in_file = lexicon_shelf_bisect};
-static const struct call shelf_add = {"lexicon_shelf_add", sizeof(uint8_t), LEXICON_RECORD, NULL, NULL, NULL};
+static const struct call shelf_add = {"lexicon_shelf_add", sizeof(uint8_t), LEXICON_RECORD, NULL, NULL, NULL, NULL};
 
-static const struct call *const of_texts[] = {&read_text, &write_record, &matrix, &mirrors, &walls, &generator, &wall_generator, &reflections};
+static const struct call *const of_texts[] = {&read_text, &names, &write_record, &matrix, &mirrors, &walls, &generator, &wall_generator, &reflections};
 static const struct call *const over_mirrors[] = {&mirrors, &generator, &reflections};
 static const struct call *const over_walls[] = {&walls, &wall_generator};
 static const struct call *const of_records_and_files[] = {&shelf_find, &shelf_bisect, &shelf_add};
@@ -101,6 +104,8 @@ static void check(bool holds, const char *what)
 
 static size_t run(void *buffer)
 {
+    if (now->to_numbers)
+        return now->to_numbers(given.bytes, given.len, given.wish, buffer, given_out, answer);
     if (now->to_doubles)
         return now->to_doubles(given.bytes, given.len, given.wish, buffer, given_out, answer);
     if (now->of_family)
@@ -111,8 +116,6 @@ static size_t run(void *buffer)
         return lexicon_shelf_check(given.file, given.file_len, answer);
     if (now == &shelf_add)
         return lexicon_shelf_add(given.file, given.file_len, given.bytes, given.len, buffer, given_out, answer);
-    if (now == &read_text)
-        return lexicon_read(given.bytes, given.len, given.wish, buffer, given_out, answer);
     if (now == &read_record)
         return lexicon_read_record(given.bytes, given.len, buffer, given_out, answer);
     return lexicon_write_record(given.bytes, given.len, given.wish, buffer, given_out, numbering, answer);
@@ -243,11 +246,12 @@ static void expect_refused_text(struct input in, const size_t *wanted)
         expect_refusal(of_texts[i], in, wanted);
 }
 
-// An accepted text whose mirrors and walls exist and whose lengths are finite.
-static void expect_accepted_text(struct input in, size_t nodes, size_t edges, bool minimal)
+// An accepted text whose mirrors and walls exist, whose lengths are finite and whose components have names.
+static void expect_accepted_text(struct input in, size_t nodes, size_t edges, size_t components, bool minimal)
 {
     expect_answer(&read_text, in, ANSWER(0, nodes, edges, minimal));
-    for (size_t i = 1; i < LEN(of_texts); i++)
+    expect_answer(&names, in, ANSWER(0, components));
+    for (size_t i = 2; i < LEN(of_texts); i++)
         expect_answer(of_texts[i], in, ANSWER(0, nodes));
 }
 
@@ -255,11 +259,11 @@ static void expect_accepted_text(struct input in, size_t nodes, size_t edges, bo
 
 static void accepted_texts(void)
 {
-    expect_accepted_text(text("x3o4o"), 3, 2, true);
-    expect_accepted_text(wished("x3o4o", 1), 3, 2, true);
-    expect_accepted_text(text("s3s *a4*a"), 2, 2, false);
-    expect_accepted_text(text("*a"), 0, 0, true);
-    expect_accepted_text(text("ooooooooo"), 9, 0, false);
+    expect_accepted_text(text("x3o4o"), 3, 2, 1, true);
+    expect_accepted_text(wished("x3o4o", 1), 3, 2, 1, true);
+    expect_accepted_text(text("s3s *a4*a"), 2, 2, 1, false);
+    expect_accepted_text(text("*a"), 0, 0, 0, true);
+    expect_accepted_text(text("ooooooooo"), 9, 0, 9, false);
 }
 
 // The edge between the nodes 0 and 1 of the diagram that was read last.
@@ -374,6 +378,7 @@ static void expect_infinite(const char *typed, const char *finite, size_t nodes,
     expect_refusal(&wall_generator, in, ANSWER(16, nodes - 1));
     expect_same(&read_text, wished(typed, 1), in, ANSWER(0, nodes, nodes - 1, true));
     expect_same(&write_record, wished(typed, 1), in, ANSWER(0, nodes));
+    expect_same(&names, text(finite), in, ANSWER(0, 1));
     expect_same(&matrix, text(finite), in, ANSWER(0, nodes));
     expect_same(&mirrors, text(finite), in, ANSWER(0, nodes));
     expect_same(&walls, text(finite), in, ANSWER(0, nodes));
@@ -406,7 +411,7 @@ static void lengths(void)
     expect_refused_text(bytes(typed, 0), ANSWER(4, 0));
     expect_refused_text(bytes(typed, MOST_BYTES), ANSWER(4, MOST_BYTES));
     typed[MOST_BYTES - 1] = 'x';
-    expect_accepted_text(bytes(typed, MOST_BYTES), 1, 0, true);
+    expect_accepted_text(bytes(typed, MOST_BYTES), 1, 0, 1, true);
     expect_refused_text(bytes(typed, MOST_BYTES + 1), ANSWER(1, 255));
     expect_refused_text(bytes(typed, sizeof typed), ANSWER(1, 255));
     memset(typed, 0xff, sizeof typed); // the length is tested before the bytes
@@ -427,7 +432,7 @@ static void single_bytes(void)
         else if (byte == '*' || (byte != 0 && strchr(spaces, byte)))
             expect_refused_text(in, ANSWER(4, 1));
         else if (byte != 0 && strchr(letters, byte))
-            expect_accepted_text(in, 1, 0, byte != 'o' && byte != 's');
+            expect_accepted_text(in, 1, 0, 1, byte != 'o' && byte != 's');
         else
             expect_refused_text(in, ANSWER(6, 0));
     }
@@ -977,6 +982,8 @@ static void past_one_node(void)
     for (size_t i = 1; i < LEXICON_LIMIT; i++)
         check(places[2 * i] == 1 && places[2 * i + 1] == 0, "past its node there is another place");
     check(filled(places + 18, 0, (LEXICON_DIAGRAM - 18) * sizeof *places), "it has an edge");
+    run_once(&names, text("x"));
+    check(filled(places + 4, 0, (LEXICON_NAMES - 4) * sizeof *places), "past its component it has another");
 
     run_once(&matrix, text("x"));
     for (size_t i = 0; i < LEXICON_SQUARE; i++)
@@ -1057,43 +1064,136 @@ static void family_walls_are_of_texts(void)
     }
 }
 
+// ---- names of groups
+
+// A text's components, and the numbers of each: lowest node, letter, number behind it, order.
+struct named {
+    const char *text;
+    size_t components;
+    uint64_t numbers[LEXICON_NAMES];
+};
+
+static void expect_named(const struct named *named, size_t count)
+{
+    for (size_t i = 0; i < count; i++) {
+        expect_answer(&names, text(named[i].text), ANSWER(0, named[i].components));
+        check(memcmp(out, named[i].numbers, sizeof named[i].numbers) == 0, "its names are others");
+    }
+}
+
+// Each name that nine nodes can have, but for I2.
+static void every_name(void)
+{
+    static const struct named named[] = {
+        {"o", 1, {0, 'A', 1, 2}}, {"o3o", 1, {0, 'A', 2, 6}}, {"o3o3o", 1, {0, 'A', 3, 24}}, {"o3o3o3o", 1, {0, 'A', 4, 120}},
+        {"o3o3o3o3o", 1, {0, 'A', 5, 720}}, {"o3o3o3o3o3o", 1, {0, 'A', 6, 5040}}, {"o3o3o3o3o3o3o", 1, {0, 'A', 7, 40320}},
+        {"o3o3o3o3o3o3o3o", 1, {0, 'A', 8, 362880}}, {"o3o3o3o3o3o3o3o3o", 1, {0, 'A', 9, 3628800}},
+        {"o4o", 1, {0, 'B', 2, 8}}, {"o4o3o", 1, {0, 'B', 3, 48}}, {"o4o3o3o", 1, {0, 'B', 4, 384}}, {"o4o3o3o3o", 1, {0, 'B', 5, 3840}},
+        {"o4o3o3o3o3o", 1, {0, 'B', 6, 46080}}, {"o4o3o3o3o3o3o", 1, {0, 'B', 7, 645120}}, {"o4o3o3o3o3o3o3o", 1, {0, 'B', 8, 10321920}},
+        {"o4o3o3o3o3o3o3o3o", 1, {0, 'B', 9, 185794560}},
+        {"o3o3o *b3o", 1, {0, 'D', 4, 192}}, {"o3o3o3o *b3o", 1, {0, 'D', 5, 1920}}, {"o3o3o3o3o *b3o", 1, {0, 'D', 6, 23040}},
+        {"o3o3o3o3o3o *b3o", 1, {0, 'D', 7, 322560}}, {"o3o3o3o3o3o3o *b3o", 1, {0, 'D', 8, 5160960}},
+        {"o3o3o3o3o3o3o3o *b3o", 1, {0, 'D', 9, 92897280}},
+        {"o3o3o3o3o *c3o", 1, {0, 'E', 6, 51840}}, {"o3o3o3o3o3o *c3o", 1, {0, 'E', 7, 2903040}}, {"o3o3o3o3o3o3o *c3o", 1, {0, 'E', 8, 696729600}},
+        {"o3o4o3o", 1, {0, 'F', 4, 1152}}, {"o5o3o", 1, {0, 'H', 3, 120}}, {"o5o3o3o", 1, {0, 'H', 4, 14400}},
+    };
+    expect_named(named, LEN(named));
+}
+
+// Of two nodes, or of three: the family D from 3 on is A3.
+static void names_of_few_nodes(void)
+{
+    static const struct named named[] = {
+        {"x3x", 1, {0, 'A', 2, 6}}, {"x6/2x", 1, {0, 'A', 2, 6}}, {"x4x", 1, {0, 'B', 2, 8}}, {"x8/2x", 1, {0, 'B', 2, 8}},
+        {"x5x", 1, {0, 'I', 5, 10}}, {"x10/2x", 1, {0, 'I', 5, 10}}, {"x6x", 1, {0, 'I', 6, 12}}, {"x4294967294/2x", 1, {0, 'I', 2147483647, 4294967294}},
+        {"x2147483648x", 1, {0, 'I', 2147483648, 4294967296}}, {"x4294967295x", 1, {0, 'I', 4294967295, 8589934590}},
+        {"oo3o *a3*c", 1, {0, 'A', 3, 24}}, {"o3o4o", 1, {0, 'B', 3, 48}}, {"o3o5o", 1, {0, 'H', 3, 120}},
+    };
+    expect_named(named, LEN(named));
+}
+
+// By rising lowest node, whichever way they were typed.
+static void several_components(void)
+{
+    static const struct named named[] = {
+        {"*a", 0, {0}}, {"x2x", 2, {0, 'A', 1, 2, 1, 'A', 1, 2}}, {"x3o3o x7o", 2, {0, 'A', 3, 24, 3, 'I', 7, 14}},
+        {"oooo *a3*d *c4*b", 2, {0, 'A', 2, 6, 1, 'B', 2, 8}}, {"oooo *b5*d *d3*c", 2, {0, 'A', 1, 2, 1, 'H', 3, 120}},
+        {"ooooooooo", 9, {0, 'A', 1, 2, 1, 'A', 1, 2, 2, 'A', 1, 2, 3, 'A', 1, 2, 4, 'A', 1, 2, 5, 'A', 1, 2, 6, 'A', 1, 2, 7, 'A', 1, 2, 8, 'A', 1, 2}},
+        {"x4294967295x x4294967295x x4294967295x x4294967295x x", 5,
+         {0, 'I', 4294967295, 8589934590, 2, 'I', 4294967295, 8589934590, 4, 'I', 4294967295, 8589934590, 6, 'I', 4294967295, 8589934590, 8, 'A', 1, 2}},
+    };
+    expect_named(named, LEN(named));
+}
+
+// Rings, lengths, loops and unreduced fractions change nothing, nor does the wish.
+static void names_of_spellings(void)
+{
+    static const char *const same[][2] = {
+        {"o3o4o", "x3x4x"}, {"o3o4o", "s3(-2.5)4(1e22)"}, {"o3o4o", "o3o4o *a5/2*a *c7*c"}, {"o3o4o", "o6/2o12/3o2*a"}, {"o3o4o", "o4o3o"},
+        {"o3o4o", "ooo *b3*a *c4*b"}, {"o3o3o3o3o3o3o *c3o", "o3o3o *a3o *a3o3o3o3o"},
+    };
+    for (size_t i = 0; i < LEN(same); i++) {
+        expect_same(&names, text(same[i][0]), text(same[i][1]), ANSWER(0, 1));
+        expect_same(&names, text(same[i][0]), wished(same[i][1], SIZE_MAX), ANSWER(0, 1));
+    }
+    expect_same(&names, text("o3o4o"), wished("(inf)3(-inf)4o *a4*a", 1), ANSWER(0, 1));
+}
+
+// The first component that no name fits, by its lowest node.
+static void refused_names(void)
+{
+    static const struct {
+        const char *text;
+        size_t node;
+    } refused[] = {
+        {"x5/2x", 0}, {"x3/2x", 0}, {"x4294967295/4294967294x", 0}, {"x5/2o5o", 0}, {"o3o3o3*a", 0}, {"o4o4o", 0}, {"o6o3o", 0}, {"o4o3o4o", 0},
+        {"o3o5o3o", 0}, {"o5o3o3o3o", 0}, {"o3o4o3o3o", 0}, {"o4o3o *b3o", 0}, {"o3o3o *b3o *b3o", 0}, {"o3o3o3o3o *b3o *d3o", 0}, {"o3o3o3o3o *c3o3o", 0},
+        {"o3o3o3o3o3o3o *d3o", 0}, {"o3o3o3o3o3o3o3o *c3o", 0}, {"x x5/2x", 1}, {"x3o3o x4o4o x5/2o", 3}, {"oooo *a3*d *c5/2*b", 1},
+        {"oooo *b3*d *d5/2*c", 1}, {"oooooooo o5/2*h", 7},
+    };
+    for (size_t i = 0; i < LEN(refused); i++) {
+        expect_refusal(&names, text(refused[i].text), ANSWER(21, refused[i].node));
+        expect_refusal(&names, wished(refused[i].text, 1), ANSWER(21, refused[i].node));
+    }
+    expect_refusal(&names, text("x5/2o4"), ANSWER(4, 6)); // the text's own refusals come first
+    expect_refusal(&names, text("(inf)5/2o"), ANSWER(23, 3));
+    expect_refusal(&names, wished("(inf)5/2o", 1), ANSWER(21, 0));
+}
+
+// A tolerance of mirrors stops no name.
+static void names_without_mirrors(void)
+{
+    struct input in = text("x4294967295o");
+    expect_of_all(over_mirrors, LEN(over_mirrors), in, ANSWER(15, 1));
+    expect_of_all(over_walls, LEN(over_walls), in, ANSWER(15, 1));
+    expect_answer(&names, in, ANSWER(0, 1));
+}
+
+static void names_in_other_buffers(void)
+{
+    expect(&names, text("x3o4o"), LEXICON_NAMES - 1, ANSWER(12));
+    expect(&names, text("x3o4o"), 4, ANSWER(12)); // room for its component alone
+    expect(&names, text("*a"), 0, ANSWER(12));
+    expect(&names, text("x3o4o"), LEXICON_NAMES + 1, ANSWER(0, 1));
+}
+
+// In this order: the shelf is filled before it is looked at.
+static void (*const tests[])(void) = {
+    accepted_texts, lowest_terms, refused_texts, refused_geometry, refused_infinite_lengths, wishes, lengths, single_bytes, bytes_at_every_position,
+    record_lengths, accepted_records, other_numberings, damaged_records, damaged_bytes, any_values, mended_records,
+    fill_shelf, shelves, file_lengths, damaged_places, unsorted_places, refused_records, short_buffers, orders, many_places,
+    families, past_one_node, walls_at_right_angles, wall_radii, walls_of_no_nodes, family_walls_are_of_texts,
+    every_name, names_of_few_nodes, several_components, names_of_spellings, refused_names, names_without_mirrors, names_in_other_buffers,
+};
+
 int main(void)
 {
     out = malloc(ROOM);
     again = malloc(ROOM);
     if (!out || !again)
         return 1;
-    accepted_texts();
-    lowest_terms();
-    refused_texts();
-    refused_geometry();
-    refused_infinite_lengths();
-    wishes();
-    lengths();
-    single_bytes();
-    bytes_at_every_position();
-    record_lengths();
-    accepted_records();
-    other_numberings();
-    damaged_records();
-    damaged_bytes();
-    any_values();
-    mended_records();
-    fill_shelf();
-    shelves();
-    file_lengths();
-    damaged_places();
-    unsorted_places();
-    refused_records();
-    short_buffers();
-    orders();
-    many_places();
-    families();
-    past_one_node();
-    walls_at_right_angles();
-    wall_radii();
-    walls_of_no_nodes();
-    family_walls_are_of_texts();
+    for (size_t i = 0; i < LEN(tests); i++)
+        tests[i]();
     printf("edges: %lu checks\n", checks);
     free(out);
     free(again);

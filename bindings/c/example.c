@@ -34,7 +34,7 @@ static const uint8_t *bytes(const char *text)
 // The refusal's number, then its fields.
 static void print_refusal(const char *what, const size_t *answer)
 {
-    static const size_t fields[] = {0, 1, 1, 1, 1, 1, 1, 3, 2, 1, 1, 1, 0, 0, 0, 1, 1, 0, 0, 1, 1, [23] = 1}; // how many, by the number
+    static const size_t fields[] = {0, 1, 1, 1, 1, 1, 1, 3, 2, 1, 1, 1, 0, 0, 0, 1, 1, 0, 0, 1, 1, 1, [23] = 1}; // how many, by the number
     printf("  no %s:", what);
     for (size_t i = 0; i <= fields[answer[0]]; i++)
         printf(" %zu", answer[i]);
@@ -133,6 +133,26 @@ static void print_radii(const char *text)
 {
     print_radius("radius", lexicon_wall_generator, text);
     print_radius("radius as miratope-core has it", lexicon_generator, text);
+}
+
+// The finite group of each component, as Coxeter names it. That of the whole figure is their product.
+static void print_groups(const char *text)
+{
+    uint64_t groups[LEXICON_NAMES];
+    size_t answer[LEXICON_ANSWER];
+    if (lexicon_names(bytes(text), strlen(text), wish, groups, LEXICON_NAMES, answer) != 0) {
+        print_refusal("names", answer);
+        return;
+    }
+    for (size_t i = 0; i < answer[1]; i++) {
+        const uint64_t *group = &groups[4 * i];
+        printf("  group at node %" PRIu64 ": ", group[0]);
+        if (group[1] == 'I')
+            printf("I2(%" PRIu64 ")", group[2]);
+        else
+            printf("%c%" PRIu64, (int)group[1], group[2]);
+        printf(", order %" PRIu64 "\n", group[3]);
+    }
 }
 
 // Adds an article's record. The longer file is written to other memory, since no record is added in place. A refusal leaves the file as it was: with 20 the
@@ -248,8 +268,8 @@ static void print_all_sent(void)
 
 int main(int argc, char **argv)
 {
-    static const char *const samples[] = {"x3o4o", "x4o3o", "o4o3x", "x5/2o5s3*c", "x3o", "x6/2o", "x4o4o", "(inf)3o", "*a", "x1o", "x4/6o", "x3o3*a",
-                                          "x3_", ""};
+    static const char *const samples[] = {"x3o4o", "x4o3o", "o4o3x", "x5/2o5s3*c", "x3o", "x6/2o", "x4o4o", "x3o3o x7o", "(inf)3o", "*a", "x1o", "x4/6o",
+                                          "x3o3*a", "x3_", ""};
     const char *const *texts = argc > 1 ? (const char *const *)argv + 1 : samples;
     size_t count = argc > 1 ? (size_t)argc - 1 : sizeof samples / sizeof *samples, accepted = 0;
     struct article *articles = calloc(count, sizeof *articles);
@@ -265,6 +285,7 @@ int main(int argc, char **argv)
         print_record(article);
         print_mirrors(texts[i]);
         print_radii(texts[i]);
+        print_groups(texts[i]);
     }
     bool filed = print_shelf(articles, accepted);
     print_same(articles, accepted);

@@ -44,12 +44,18 @@ ringed node, s a snub one, o an unringed one, with lengths other than 1 in paren
 nodes a, b, c... are read along the line, then branch by branch; where they were typed in
 another order, their names are shown.
 
+The groups are told by their names in Coxeter's list of finite groups and by their orders, each
+at the first node of its component; the group of several components is their product. Rings,
+lengths and loops play no part. No name fits a component whose group is infinite, nor one with
+a fraction such as 5/2 for an edge.
+
 With --geometry, decimals are the shortest that give the double back. The walls are mirrors as
 Coxeter has them, and the radius of the generator over them is the one to print: the circumradius
 of the figure whose edges have these lengths, the same for every spelling but for the last
-digits. The generator and radius as miratope-core has them depend on the order of typing. Where
-there are no walls, no mirrors or no generator, the refusal is told in their place, and the status
-is 0, as nothing is wrong with the text.
+digits. The generator and radius as miratope-core has them depend on the order of typing.
+
+Where there are no names, no walls, no mirrors or no generator, the refusal is told in their
+place, and the status is 0, as nothing is wrong with the text.
 
 Exit status: 0, 1 if the text is refused, 2 for a failure.
 
@@ -71,6 +77,12 @@ Example:
     b-c: 5/2
     b-d: 3
   minimal: yes, each component has a ringed node
+  groups: none, refusal 21: no name of a finite group fits the component of node a
+  $ lexicon show 'x3o3o x7o' | grep -A 3 ^groups
+  groups:
+    a: A3, order 24
+    d: I2(7), order 14
+    their product: order 336
   $ lexicon show --geometry x3o4o | grep ^radius
   radius: 0.7071067811865477
   radius as miratope-core has it: 1

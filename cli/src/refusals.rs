@@ -37,6 +37,12 @@ pub fn what(refusal: &CdError) -> String {
         }
         CdError::InfiniteLength { .. } => "the length that ends here is infinite".into(),
         // Those below are no refusals of texts.
+        CdError::NoName { node } => {
+            format!(
+                "no name of a finite group fits the component of node {}",
+                name(node)
+            )
+        }
         ref other => other.to_string(),
     }
 }
@@ -71,6 +77,7 @@ pub fn advice(refusal: &CdError) -> &'static str {
         CdError::OnShelf { .. } => "Look for the article that has this figure.",
         CdError::Crowded { .. } => "Such a figure has no mirrors, or no walls, in spherical space; nothing is wrong with its text.",
         CdError::Infinite { .. } => "A figure with an infinite length has no generator.",
+        CdError::NoName { .. } => "The group of such a component is infinite, or an edge is a fraction such as 5/2; nothing is wrong with its text.",
         _ => "File the figure's text again.",
     }
 }

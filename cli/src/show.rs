@@ -3,12 +3,13 @@
 use std::io::{self, Write};
 
 use clap::ArgMatches;
-use lexicon::{Cd, Node, StoredEdge};
+use lexicon::{Cd, Group, Groups, Node, StoredEdge};
 
 use crate::{
     geometry::{self, Form},
     names::{decimal, fraction, name},
     output::{Outcome, Output, Status},
+    refusals::what,
     sketch::sketch,
     texts,
 };
@@ -48,7 +49,19 @@ fn show(cd: &Cd, out: &mut impl Write) -> io::Result<()> {
     } else {
         "no, a component has no ringed node"
     };
-    writeln!(out, "minimal: {minimal}")
+    writeln!(out, "minimal: {minimal}")?;
+    show_groups(cd, out)
+}
+
+/// Writes the names and orders of the components' groups. Where there are none, it is said why.
+fn show_groups(cd: &Cd, out: &mut impl Write) -> io::Result<()> {
+    match cd.groups() {
+        Ok(groups) => list(out, "groups", named(&groups).into_iter()),
+        Err(refusal) => {
+            let number = refusal.number();
+            writeln!(out, "groups: none, refusal {number}: {}", what(&refusal))
+        }
+    }
 }
 
 fn list(
@@ -78,4 +91,20 @@ fn joined(stored: &StoredEdge) -> String {
     let number = fraction(stored.edge);
     let rest = if stored.a == stored.b { ", a loop" } else { "" };
     format!("{}-{}: {number}{rest}", name(stored.a), name(stored.b))
+}
+
+/// Each group by its component's first node. That of several components is their product, whose
+/// order may be too large to be told.
+fn named(groups: &Groups) -> Vec<String> {
+    let entry = |group: &Group| {
+        let (node, order) = (name(group.node()), group.order());
+        format!("{node}: {}, order {order}", group.name())
+    };
+    let mut entries: Vec<String> = groups.iter().map(entry).collect();
+    if groups.len() > 1 {
+        let order = groups.order().map(|order| order.to_string());
+        let order = order.unwrap_or_else(|| "at least 2^128".into());
+        entries.push(format!("their product: order {order}"));
+    }
+    entries
 }

@@ -3,6 +3,8 @@
 mod common;
 #[path = "show/geometry.rs"]
 mod geometry;
+#[path = "show/groups.rs"]
+mod groups;
 #[path = "show/random.rs"]
 mod random;
 #[path = "show/reader.rs"]
@@ -103,6 +105,7 @@ fn listed(cd: &Cd) -> Vec<String> {
     } else {
         "minimal: no, a component has no ringed node".into()
     });
+    lines.extend(groups::listed(cd));
     lines
 }
 

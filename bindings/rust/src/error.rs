@@ -7,8 +7,8 @@ use crate::diagram::part;
 /// What a call gives, or why it refuses.
 pub type CdResult<T> = Result<T, CdError>;
 
-/// Why a text, a record, mirrors, walls, a generator, a family or a shelf is refused. Positions,
-/// nodes, columns, edges and places are counted from 0, positions in bytes.
+/// Why a text, a record, mirrors, walls, a generator, a family, a shelf or a name is refused.
+/// Positions, nodes, columns, edges and places are counted from 0, positions in bytes.
 ///
 /// ```
 /// use lexicon::{Cd, CdError};
@@ -141,6 +141,13 @@ pub enum CdError {
         place: usize,
     },
 
+    /// No name of a finite group fits a component of the diagram: its group is infinite, or an edge of
+    /// it is a fraction such as 5/2.
+    NoName {
+        /// The lowest node of the first such component.
+        node: usize,
+    },
+
     /// A record is well laid out, but not the smallest of its renumberings: it tells a figure under
     /// another numbering than the filed one, and must not serve as a key. Each text of the figure
     /// gets the right record, by [`Cd::record`](crate::Cd::record).
@@ -155,8 +162,8 @@ pub enum CdError {
 }
 
 impl CdError {
-    /// The number of this refusal in the specification and in `lexicon.h`, 1 to 20, 22 or 23,
-    /// for logs and for messages to programs in other languages.
+    /// The number of this refusal in the specification and in `lexicon.h`, 1 to 23, for logs and for
+    /// messages to programs in other languages.
     #[must_use]
     pub fn number(&self) -> u32 {
         match self {
@@ -180,6 +187,7 @@ impl CdError {
             Self::ShelfLength => 18,
             Self::ShelfPlace { .. } => 19,
             Self::OnShelf { .. } => 20,
+            Self::NoName { .. } => 21,
             Self::NotSmallest => 22,
             Self::InfiniteLength { .. } => 23,
         }
@@ -202,7 +210,8 @@ impl CdError {
             | Self::Crowded { column: field }
             | Self::Infinite { node: field }
             | Self::ShelfPlace { place: field }
-            | Self::OnShelf { place: field } => vec![field],
+            | Self::OnShelf { place: field }
+            | Self::NoName { node: field } => vec![field],
             _ => self.position().into_iter().collect(),
         }
     }
@@ -260,6 +269,7 @@ impl CdError {
             18 => Self::ShelfLength,
             19 => Self::ShelfPlace { place: a },
             20 => Self::OnShelf { place: a },
+            21 => Self::NoName { node: a },
             22 => Self::NotSmallest,
             23 => Self::InfiniteLength { pos: a },
             _ => unreachable!("lexicon.h has no refusal {number}"),
@@ -305,6 +315,10 @@ impl fmt::Display for CdError {
                 "shelf file wrong at place {place}: record unreadable, or not greater than the one before"
             ),
             Self::OnShelf { place } => write!(f, "record already on the shelf, at place {place}"),
+            Self::NoName { node } => write!(
+                f,
+                "no name of a finite group fits the component of node {node}"
+            ),
             Self::NotSmallest => write!(
                 f,
                 "record well laid out, but not the smallest numbering: file the figure's text again"

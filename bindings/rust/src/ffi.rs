@@ -15,6 +15,7 @@ pub const DIAGRAM: usize = 153;
 pub const SQUARE: usize = 81;
 pub const GENERATOR: usize = 10;
 pub const REFLECTIONS: usize = 729;
+pub const NAMES: usize = 36;
 
 /// What a call writes, and the three numbers that it tells of it.
 pub type Written<T, const N: usize> = CdResult<([T; N], [usize; ANSWER - 1])>;
@@ -105,6 +106,15 @@ extern "sysv64" {
         answer: *mut usize,
     ) -> usize;
 
+    fn lexicon_names(
+        text: *const u8,
+        text_len: usize,
+        wish: usize,
+        out: *mut u64,
+        out_len: usize,
+        answer: *mut usize,
+    ) -> usize;
+
     fn lexicon_family_matrix(
         letter: u8,
         size: usize,
@@ -154,6 +164,11 @@ extern "sysv64" {
 /// be infinite with the wish.
 pub fn read(text: &[u8], wish: bool) -> Written<u64, DIAGRAM> {
     of_text(lexicon_read, text, wish)
+}
+
+/// Tells the components.
+pub fn names(text: &[u8], wish: bool) -> Written<u64, NAMES> {
+    of_text(lexicon_names, text, wish)
 }
 
 /// Tells the nodes, as do all the calls below.

@@ -3,7 +3,7 @@
 //! [`Cd::parse`] reads a text such as `x4o3o` as miratope-core does, or refuses it with a [`CdError`]
 //! that tells the byte and the reason. [`Cd::record`] gives the figure's [`Record`]: two texts have
 //! the same record exactly when they draw the same figure. [`Cox`] and [`Generator`] are its geometry;
-//! the radius to print is that of [`Cd::wall_generator`].
+//! the radius to print is that of [`Cd::wall_generator`]. [`Cd::groups`] names its finite groups.
 //!
 //! ```
 //! use lexicon::{Cd, CdError};
@@ -12,6 +12,8 @@
 //! assert_eq!(octahedron.node_count(), 3);
 //! assert_eq!(octahedron.record(), Cd::parse("o4o3x")?.record());
 //! assert_eq!(format!("{:.4}", octahedron.wall_generator()?.radius()), "0.7071");
+//! let group = octahedron.groups()?[0];
+//! assert_eq!((group.name().to_string(), group.order()), ("B3".to_owned(), 48));
 //!
 //! assert_eq!(Cd::parse("x3_").unwrap_err(), CdError::InvalidSymbol { pos: 2 });
 //! # Ok::<(), CdError>(())
@@ -71,7 +73,7 @@
 //! | `Cox::from_lin_diagram_iter`; `Cox::from_lin_diagram` and `Cox::i2`, which panic | [`Cox::parse`] of the chain as a text, such as `o7o` |
 //! | `Cox::normals` | the same, as a [`Matrix`], with a [`CdError`] for `None`; Coxeter's mirrors, which miratope-core lacks, are [`Cox::walls`] |
 //! | `Cox::gen_iter`, its `gens` | [`Cd::reflections`], for a family those of its text |
-//! | `Cox::gen_iter`, its walk; `Cox::group` | none: groups are not in the specification |
+//! | `Cox::gen_iter`, its walk; `Cox::group` | none: the elements of groups are not in the specification; their names and orders, which miratope-core lacks, are [`Cd::groups`] |
 //! | `Cox`: `new`, `link`, `iter_mut`, `cox[(i, j)] = ..` | none: the library takes no matrix |
 //!
 //! Cosines and sums are those of the specification, so that every machine computes the same doubles;
@@ -85,6 +87,7 @@ mod diagram;
 mod error;
 #[allow(unsafe_code)]
 mod ffi;
+mod group;
 mod record;
 mod shelf;
 
@@ -92,5 +95,6 @@ pub use cd::{Cd, Generator};
 pub use cox::{Cox, Matrix};
 pub use diagram::{Diagram, Edge, Node, StoredEdge};
 pub use error::{CdError, CdResult};
+pub use group::{Group, GroupName, Groups};
 pub use record::{Record, RecordError};
 pub use shelf::Shelf;

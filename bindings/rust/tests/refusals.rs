@@ -185,6 +185,20 @@ fn shelves() {
     assert_eq!(present.to_string(), words);
 }
 
+/// After the refusals of texts, which leave no `Cd` to ask.
+#[test]
+fn names() -> CdResult<()> {
+    let refusal = CdError::NoName { node: 2 };
+    for text in ["x3o x5/2o", "xx(inf)4o4o"] {
+        let cd = Cd::parse_with_infinite(text)?;
+        assert_eq!(cd.groups(), Err(refusal));
+    }
+    let words = "no name of a finite group fits the component of node 2";
+    assert_eq!((refusal.number(), &refusal.to_string()[..]), (21, words));
+    assert_eq!((refusal.fields(), refusal.position()), (vec![2], None));
+    Ok(())
+}
+
 /// No call of this crate gives 12, which has its case all the same.
 #[test]
 fn short_buffers() {
