@@ -51,6 +51,11 @@ module _ (i j : ℕ) (s : Stored) where
 
 -- ---- between
 
+pub joined-symmetric : (es : List Stored) (i j : ℕ) → isJoined es i j ≡ isJoined es j i
+unfolding isJoined
+joined-symmetric [] i j = refl
+joined-symmetric (s ∷ es) i j = rw (joins-symmetric i j s, joined-symmetric es i j)
+
 pub between-symmetric : (k : ℕ) (es : List Stored) (i j : ℕ) → between k es i j ≡ between k es j i
 unfolding between
 between-symmetric k [] i j = refl

@@ -44,10 +44,10 @@ plain-front {n} {m} h = record {
 
 -- ---- one place more: v at place k of p
 
-put-same : (p : List ℕ) (k v : ℕ) → k < length p → at (set p k v) k ≡ v
+pub put-same : (p : List ℕ) (k v : ℕ) → k < length p → at (set p k v) k ≡ v
 put-same p k v h = getD-set-same p k v 0 h
 
-put-below : (p : List ℕ) (k v i : ℕ) → i < k → at (set p k v) i ≡ at p i
+pub put-below : (p : List ℕ) (k v i : ℕ) → i < k → at (set p k v) i ≡ at p i
 put-below p k v i h = getD-set-other p k i v 0 (omega arith)
 
 -- v is free: none of the first k places has it

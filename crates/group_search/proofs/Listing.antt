@@ -20,6 +20,7 @@ use Rattle.cd.proofs.Stored.{count-held}
 use Rattle.filing.specs.Diagrams.{IsEdge}
 use Rattle.filing.specs.Numberings.{at}
 use Rattle.parse.specs.declared.Answer.the-variants as said
+use Rattle.parse.proofs.Answered.{apart}
 use Rattle.tables.specs.Diagrams.{joint, diagram}
 use Rattle.tables.specs.Tables.{IsKept, number, pairNumber, PairTable}
 use Rattle.tables.proofs.Held.{pairs-hold}
@@ -42,9 +43,6 @@ listing-more r gs g e h =
 
 pub counted : {r : Groups} (gs : List Group) → r ≡ listing gs → r .count ≡ length gs
 counted gs e = ap (λ (z : Groups). z .count) e
-
-apart : (e : CdError) → said.Accepted ≡ said.Refused e → ⊥
-apart e h = let z : _≡_ {A = ℕ} 0 1 = (cc) in omega arith
 
 -- ---- a list goes on, or stops
 

@@ -10,19 +10,13 @@ use native.Mathlib.Numerals.{add-one}
 use native.Mathlib.Omega.{arith}
 use borrow.Author.Tests.{eq-eqb, ne-eqb}
 use lib.ListN.{length, set, length-set}
-use lib.Seq.{getD-set-same, getD-set-other}
 use Rattle.filing.specs.Numberings.{Injects, at}
 use Rattle.filing.specs.Sequences.{Agree}
 use Rattle.filing.proofs.Bytes.{one-more}
 use Rattle.filing.proofs.Numberings.{Found, onto}
+use Rattle.filing.proofs.Searching.{put-same, put-below}
 use Rattle.group_names.specs.declared.Name.{Name}
 use Rattle.group_search.specs.Steps.{Agrees, Suits, Embeds, GoesOn, Ready, labelCount}
-
-pub put-same : (p : List ℕ) (k v : ℕ) → k < length p → at (set p k v) k ≡ v
-put-same p k v h = getD-set-same p k v 0 h
-
-pub put-below : (p : List ℕ) (k v i : ℕ) → i < k → at (set p k v) i ≡ at p i
-put-below p k v i h = getD-set-other p k i v 0 (omega arith)
 
 -- the nodes below v have been tried at place k: what goes on from the first k places of p has none of them there
 abbrev pub Tried : ℕ → List ℕ → List ℕ → ℕ → ℕ → Name → ℕ → ℕ → List ℕ → ℕ → Type 0

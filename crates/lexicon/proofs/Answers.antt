@@ -12,6 +12,7 @@ use Rattle.parse.specs.Reading.{Reading, Accepted, Refused, read, answer}
 use Rattle.parse.specs.declared.Answer.the-variants as said
 use Rattle.parse.specs.declared.Read.{Read}
 use Rattle.parse.proofs.Outcomes.{accepted-few}
+pub use Rattle.parse.proofs.Answered.{apart}
 use Rattle.lexicon.specs.Reads.{Marks}
 
 answer-few : (x : Reading) (wish : Bool) (s : List ℕ) → read wish s ≡ x → answer x .cd .count ≤ limit
@@ -22,9 +23,6 @@ answer-few (Refused r) wish s h = omega arith
 -- the diagram of any text has at most `limit` nodes
 pub read-few : (wish : Bool) (s : List ℕ) (r : Read) → r ≡ answer (read wish s) → r .cd .count ≤ limit
 read-few wish s r h = rw h (answer-few (read wish s) wish s refl)
-
-pub apart : (e : CdError) → said.Accepted ≡ said.Refused e → ⊥
-apart e h = let z : _≡_ {A = ℕ} 0 1 = (cc) in omega arith
 
 pub mark-accepted : (x : Reading) (r : Read) (b : Bool) → r ≡ answer x → r .answer ≡ said.Accepted
     → ((ns : List Node) (es : List Stored) → r .cd ≡ cdOf ns es → Decides (Minimal ns es) b) → Marks x b

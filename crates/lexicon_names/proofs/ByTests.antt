@@ -17,7 +17,7 @@ use Rattle.cd.specs.Minimal.{Linked}
 use Rattle.cd.specs.Paths.{Path, here, on}
 use Rattle.cd.specs.declared.CdError.the-variants.{NoName}
 use Rattle.cd.specs.declared.Node.{Node}
-use Rattle.cd.proofs.Stored.{joins-symmetric}
+use Rattle.cd.proofs.Stored.{joined-symmetric}
 use Rattle.filing.specs.Fractions.{SameFraction}
 use Rattle.group_names.specs.Named.{over1, Named, Lowest, Lists, none, passed, listed, group, listing, refusal, named, nameless}
 use Rattle.group_names.specs.Names.{isName, rank, entry}
@@ -32,11 +32,6 @@ use Rattle.lexicon_names.specs.NamesText.{NamesText, told}
 
 both : (a b : Bool) → (a && b) ≡ true → (a ≡ true) × (b ≡ true)
 both a b h = and-eq-true-iff a b .0 h
-
-joined-symmetric : (es : List Stored) (i j : ℕ) → isJoined es i j ≡ isJoined es j i
-unfolding isJoined
-joined-symmetric [] i j = refl
-joined-symmetric (s ∷ es) i j = rw (joins-symmetric i j s, joined-symmetric es i j)
 
 turned : {n : ℕ} {es : List Stored} (i j : ℕ) → Linked n es i j → Linked n es j i
 turned {es = es} i j e = record { first = e .other; other = e .first; stored = joined-symmetric es j i ∙ e .stored }

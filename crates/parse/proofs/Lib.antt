@@ -2,4 +2,5 @@
 mod JoinLaws
 pub mod KeptEdges
 mod Turns
+pub mod Answered
 pub mod Outcomes

@@ -8,9 +8,9 @@ use borrow.Author.Needs.{needs}
 use lib.ListN.{length, length-set}
 use Rattle.cd.specs.Diagrams.{limit}
 use Rattle.filing.specs.Numberings.{at}
+use Rattle.filing.proofs.Searching.{put-same, put-below}
 use Rattle.group_names.specs.Names.{entry}
 use Rattle.group_search.specs.Steps.{wholeNumber}
-use Rattle.group_search.proofs.Placing.{put-same, put-below}
 use Rattle.group_search.proofs.wanted.Statement.{statement}
 use Rattle.group_search.proofs.wanted.Tie as tie
 
