@@ -1,16 +1,17 @@
 -- Names found by tests that antt computes. For each node the next on the way to its component's lowest node, and for each component a renumbering and what takes
--- it back, are handed over; no stored edge leaves the nodes that it reaches, so these are the component. And no name fits where two nodes of a component are
--- joined by a fraction that is no whole number. No limit of nodes stands here. Assumes nothing.
-use Prim.Native.Nat.{ℕ, zero, suc, _*_, _≤_, _<_}
-use mathlib.Core.Bool.{Bool, true, false, _&&_, _||_, and-eq-true-iff}
+-- it back, are handed over; no stored edge leaves the nodes that it reaches, so these are the component. No name fits where two nodes of a component are
+-- joined by a fraction that is no whole number, or where a search that tries every node at every place finds none. No limit of nodes stands here. Assumes nothing.
+use Prim.Native.Nat.{ℕ, zero, suc, _+_, _*_, _≤_, _<_, zero-le}
+use mathlib.Core.Bool.{Bool, true, false, not, _&&_, _||_, true≢false, and-eq-true-iff}
 use mathlib.Core.List.{List, [], _∷_, _++_}
 use mathlib.Core.Logic.{_≢_}
 use mathlib.Core.Path.{_≡_, refl, sym, ap, _∙_, subst, subst₂}
-use native.Mathlib.Nat.{le-refl}
+use native.Mathlib.Decide.{ℕ-discrete}
+use native.Mathlib.Nat.{le-refl, le-antisymm, not-suc-le-zero}
 use native.Mathlib.Omega.{arith}
-use borrow.Author.Tests.{ltb-true, leb-true, le-leb, eqb-true, eqb-false, ne-eqb}
+use borrow.Author.Tests.{ltb-true, leb-true, le-leb, eqb-true, eqb-false, eq-eqb, ne-eqb, not-true}
 use lib.Dec.{eqb, ltb, leb}
-use lib.ListN.{length}
+use lib.ListN.{length, getD}
 use Rattle.float.specs.Pick.{pick}
 use Rattle.cd.specs.Diagrams.{Stored, isJoined}
 use Rattle.cd.specs.Minimal.{Linked}
@@ -19,13 +20,16 @@ use Rattle.cd.specs.declared.CdError.the-variants.{NoName}
 use Rattle.cd.specs.declared.Node.{Node}
 use Rattle.cd.proofs.Stored.{joined-symmetric}
 use Rattle.filing.specs.Fractions.{SameFraction}
-use Rattle.group_names.specs.Named.{over1, Named, Lowest, Lists, none, passed, listed, group, listing, refusal, named, nameless}
+use Rattle.filing.proofs.Numberings.{pigeonhole}
+use Rattle.group_names.specs.Named.{over1, Named, Lowest, Nameless, Lists, none, passed, listed, group, listing, refusal, named, nameless}
 use Rattle.group_names.specs.Names.{isName, rank, entry}
 use Rattle.group_names.specs.declared.Group.{Group}
 use Rattle.group_names.specs.declared.Groups.{Groups}
 use Rattle.group_names.specs.declared.Name.{Name}
-use Rattle.lexicon.proofs.Marks.{every, every-at, closed, path-stays}
-use Rattle.minimal.proofs.Paths.{path-back}
+use Rattle.group_names.specs.declared.Name.the-variants.{A, B, D, E6, E7, E8, F4, H3, H4, I2}
+use Rattle.group_names.proofs.Matching.{matched-le}
+use Rattle.lexicon.proofs.Marks.{every, every-at, implies, implied, closed, path-stays}
+use Rattle.minimal.proofs.Paths.{path-back, path-below}
 use Rattle.parse.specs.Reading.{Accepted, read}
 use Rattle.tables.specs.Diagrams.{joint}
 use Rattle.lexicon_names.specs.NamesText.{NamesText, told}
@@ -182,6 +186,111 @@ named-whole {es = es} {x = x} d p q ne =
     let other : i ≢ j = λ e. ne (sym ei ∙ ap (d .places) e ∙ ej) in
     (entry x i j, subst₂ (λ a b. SameFraction (joint es a b) (over1 (entry x i j))) ei ej (d .fits .edges i j hi hj other))
 
+-- ---- no name at all
+
+-- f holds of some number below n
+unfoldable pub some : (ℕ → Bool) → ℕ → Bool
+some f zero = false
+some f (suc n) = let r = some f n in f n || r
+
+or-right : (a b : Bool) → b ≡ true → (a || b) ≡ true
+or-right true b h = refl
+or-right false b h = h
+
+some-at : (f : ℕ → Bool) (n i : ℕ) → i < n → f i ≡ true → some f n ≡ true
+unfolding some
+some-at f zero i l h = absurd (not-suc-le-zero l)
+some-at f (suc n) i l h =
+    elim (ℕ-discrete i n) [
+      | yes e ↦ rw (← e, h)
+      | no ne ↦ or-right (f n) (some f n) (some-at f n i (omega arith) h)
+    ]
+
+-- the first k of a renumbering, the last one first
+firsts : (ℕ → ℕ) → ℕ → List ℕ
+firsts p zero = []
+firsts p (suc k) = p k ∷ firsts p k
+
+module _ (n : ℕ) (es : List Stored) where
+  -- v at place k agrees with nodes at the places below j, the last one first
+  unfoldable pub isBehind : Name → ℕ → ℕ → ℕ → List ℕ → Bool
+  isBehind x k v zero us = true
+  isBehind x k v (suc j) [] = true
+  isBehind x k v (suc j) (u ∷ us) =
+      let r = isBehind x k v j us in
+      let z = joint es u v in
+      not (eqb u v) && (eqb (z .num * 1) (entry x j k * z .den) && r)
+
+  -- m more places can be filled behind the k that have nodes
+  unfoldable pub goesOn : Name → ℕ → ℕ → List ℕ → Bool
+  unfolding isBehind some
+  goesOn x zero k us = true
+  goesOn x (suc m) k us = some (λ v. let t = goesOn x m (suc k) (v ∷ us) in isBehind x k v k us && t) n
+
+  -- x has n nodes, and they can't be placed
+  unfoldable pub isUnfit : Name → Bool
+  unfolding goesOn
+  isUnfit x = implies (eqb (rank x) n) (not (goesOn x n 0 []))
+
+  module _ {c : ℕ} (hc : c < n) {x : Name} (d : Named n es c x) where
+    abbrev f : ℕ → ℕ
+    f = d .places
+
+    below : (i : ℕ) → i < rank x → f i < n
+    below i l = path-below n (λ i j e. e .other) (d .fits .inside i l) hc
+
+    behind : (k j : ℕ) → k < rank x → j ≤ k → isBehind x k (f k) j (firsts f j) ≡ true
+    unfolding isBehind firsts
+    behind k zero l h = refl
+    behind k (suc j) l h =
+        let low : j < rank x = omega arith in
+        let ne : j ≢ k = λ e. omega arith in
+        rw (ne-eqb (f j) (f k) (λ e. ne (d .fits .apart j k low l e)), eq-eqb _ _ (d .fits .edges j k low l ne)) (behind k j l (omega arith))
+
+    -- what is found by a renumbering is found by the search
+    goes-on : (m k : ℕ) → m + k ≡ rank x → goesOn x m k (firsts f k) ≡ true
+    unfolding goesOn firsts
+    goes-on zero k e = refl
+    goes-on (suc m) k e =
+        some-at _ n (f k) (below k (omega arith)) (and-eq-true-iff (isBehind x k (f k) k (firsts f k)) _ .1 (behind k k (omega arith) (le-refl k), goes-on m (suc k) (omega arith)))
+
+    -- of one component of n nodes it has n
+    size : ((v : ℕ) → v < n → Path (Linked n es) c v) → rank x ≡ n
+    size whole =
+        le-antisymm (pigeonhole (rank x) n f (record { within = below; apart = d .fits .apart }))
+        (matched-le (λ v i. f i ≡ v) (λ v l. d .fits .all v (whole v l)) (λ u v i l m p q. sym p ∙ q))
+
+    not-unfit : ((v : ℕ) → v < n → Path (Linked n es) c v) → isUnfit x ≡ true → ⊥
+    unfolding isUnfit firsts
+    not-unfit whole h =
+        let e = size whole in
+        let t : goesOn x n 0 [] ≡ true = subst (λ m. goesOn x m 0 [] ≡ true) e (goes-on (rank x) 0 (omega arith)) in
+        true≢false (sym t ∙ not-true _ (implied (eqb (rank x) n) _ h (eq-eqb (rank x) n e)))
+
+  -- the names of n nodes, but for I2
+  abbrev pub namesOf : List Name
+  namesOf = A n ∷ B n ∷ D n ∷ E6 ∷ E7 ∷ E8 ∷ F4 ∷ H3 ∷ H4 ∷ []
+
+  abbrev pub isUnfitAt : ℕ → Bool
+  isUnfitAt k = isUnfit (getD namesOf k F4)
+
+  unfit : 2 < n → every isUnfitAt 9 ≡ true → (x : Name) → rank x ≡ n → isUnfit x ≡ true
+  unfolding rank
+  unfit three h (A k) e = subst (λ m. isUnfit (A m) ≡ true) (sym e) (every-at isUnfitAt 9 0 h (omega arith))
+  unfit three h (B k) e = subst (λ m. isUnfit (B m) ≡ true) (sym e) (every-at isUnfitAt 9 1 h (omega arith))
+  unfit three h (D k) e = subst (λ m. isUnfit (D m) ≡ true) (sym e) (every-at isUnfitAt 9 2 h (omega arith))
+  unfit three h E6 e = every-at isUnfitAt 9 3 h (omega arith)
+  unfit three h E7 e = every-at isUnfitAt 9 4 h (omega arith)
+  unfit three h E8 e = every-at isUnfitAt 9 5 h (omega arith)
+  unfit three h F4 e = every-at isUnfitAt 9 6 h (omega arith)
+  unfit three h H3 e = every-at isUnfitAt 9 7 h (omega arith)
+  unfit three h H4 e = every-at isUnfitAt 9 8 h (omega arith)
+  unfit three h (I2 p) e = absurd (omega arith)
+
+  -- where all nodes are one component, and none of these names can be placed
+  none-fits : {c : ℕ} → c < n → 2 < n → ((v : ℕ) → v < n → Path (Linked n es) c v) → every isUnfitAt 9 ≡ true → Nameless n es c
+  none-fits hc three whole h x d = not-unfit hc d whole (unfit three h x (size hc d whole))
+
 -- ---- of a text
 
 module _ {wish : Bool} {text : List ℕ} {ns : List Node} {es : List Stored} {r : Groups} (f : Found) (h : read wish text ≡ Accepted ns es) where
@@ -197,3 +306,13 @@ module _ {wish : Bool} {text : List ℕ} {ns : List Node} {es : List Stored} {r 
       let low : Lowest (length ns) es c = λ v p. leb-true c v (path-stays (leb c) cl p (le-leb c c (le-refl c))) in
       let step : Path (Linked (length ns) es) c u = on (record { first = hc; other = hu; stored = s }) here in
       told h (nameless hc (told-lists (length ns) es f c (omega arith) t) low (λ x d. let (m, w) = named-whole d here step (eqb-false c u ne) in not m w) e)
+
+  -- all nodes are one component, and no name of as many nodes can be placed there
+  pub nameless-by-search : ltb 2 (length ns) ≡ true → every (leadsTo (length ns) es f 0 (length ns)) (length ns) ≡ true → every (isUnfitAt (length ns) es) 9 ≡ true → r ≡ refusal (NoName 0) → NamesText wish text r
+  nameless-by-search b t u e =
+      let n = length ns in
+      let three = ltb-true 2 n b in
+      let hc : 0 < length ns = omega arith in
+      let whole : (v : ℕ) → v < length ns → Path (Linked (length ns) es) 0 v =
+      λ v l. path-back turned (leads-path (length ns) es f 0 (length ns) v l (every-at (leadsTo (length ns) es f 0 (length ns)) (length ns) v t l)) in
+      told h (nameless hc none (λ v p. zero-le) (none-fits (length ns) es hc three whole u) e)

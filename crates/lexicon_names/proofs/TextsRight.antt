@@ -30,7 +30,7 @@ use Rattle.group_names.specs.declared.Name.{Name}
 use Rattle.group_names.specs.declared.Name.the-variants.{A, B, D, F4, I2}
 use Rattle.lexicon.specs.All.{All, nil, cons}
 use Rattle.lexicon_names.specs.Texts.{RightEntry, texts}
-use Rattle.lexicon_names.proofs.ByTests.{Found, isTold, groupsBelow, names-by, nameless-by}
+use Rattle.lexicon_names.proofs.ByTests.{Found, isTold, groupsBelow, leadsTo, isUnfit, names-by, nameless-by, nameless-by-search}
 
 -- one component: its name, for each place the node, for each node the place, and the next on the way to node 0
 abbrev one : Name → List ℕ → List ℕ → List ℕ → Found
@@ -39,6 +39,10 @@ one x nodes places steps = record { lowest = λ i. 0; next = at steps; name = λ
 -- a chain in its own order
 abbrev chained : Name → Found
 chained x = one x (0 ∷ 1 ∷ 2 ∷ 3 ∷ []) (0 ∷ 1 ∷ 2 ∷ 3 ∷ []) (0 ∷ 0 ∷ 1 ∷ 2 ∷ [])
+
+-- only the next on the way to node 0
+abbrev along : List ℕ → Found
+along steps = one (A 1) [] [] steps
 
 -- node 1 beside the nodes 0 and 2
 abbrev two : Found
@@ -49,7 +53,7 @@ no-half : (m : ℕ) → 5 * 1 ≡ m * 2 → ⊥
 no-half m e = omega arith
 
 pub texts-right : All RightEntry texts
-unfolding texts read kept reduced textFrom joinAll nodeAt literalOf edgeAt skip isDigit isSpace ascii letterOf isEdge isTwo endsOf decimalOf ofBits whole every isTold groupsBelow isName rank entry isJoined joint padded
+unfolding texts read kept reduced textFrom joinAll nodeAt literalOf edgeAt skip isDigit isSpace ascii letterOf isEdge isTwo endsOf decimalOf ofBits whole every isTold groupsBelow leadsTo isUnfit isName rank entry isJoined joint padded
 texts-right =
     cons (names-by (chained (A 2)) refl refl refl)
     (cons (names-by (chained (B 2)) refl refl refl)
@@ -61,7 +65,12 @@ texts-right =
     (cons (names-by (one (A 3) (0 ∷ 2 ∷ 1 ∷ []) (0 ∷ 2 ∷ 1 ∷ []) (0 ∷ 2 ∷ 0 ∷ [])) refl refl refl)
     (cons (names-by (one (A 4) (0 ∷ 3 ∷ 2 ∷ 1 ∷ []) (0 ∷ 3 ∷ 2 ∷ 1 ∷ []) (0 ∷ 2 ∷ 3 ∷ 0 ∷ [])) refl refl refl)
     (cons (names-by (one (D 5) (0 ∷ 4 ∷ 3 ∷ 2 ∷ 1 ∷ []) (0 ∷ 4 ∷ 3 ∷ 2 ∷ 1 ∷ []) (0 ∷ 2 ∷ 3 ∷ 0 ∷ 3 ∷ [])) refl refl refl)
+    (cons (nameless-by-search (along (0 ∷ 0 ∷ 1 ∷ [])) refl refl refl refl refl)
+    (cons (nameless-by-search (along (0 ∷ 0 ∷ 1 ∷ 2 ∷ [])) refl refl refl refl refl)
+    (cons (nameless-by-search (along (0 ∷ 0 ∷ 1 ∷ 2 ∷ 3 ∷ [])) refl refl refl refl refl)
+    (cons (nameless-by-search (along (0 ∷ 0 ∷ 1 ∷ 2 ∷ 3 ∷ [])) refl refl refl refl refl)
+    (cons (nameless-by-search (along (0 ∷ 0 ∷ 1 ∷ 2 ∷ 3 ∷ 4 ∷ 5 ∷ 6 ∷ 2 ∷ [])) refl refl refl refl refl)
     (cons (names-by (one (B 3) (2 ∷ 1 ∷ 0 ∷ []) (2 ∷ 1 ∷ 0 ∷ []) (0 ∷ 0 ∷ 1 ∷ [])) refl refl refl)
     (cons (names-by two refl refl refl)
     (cons (nameless-by (chained (A 2)) refl 2 3 refl refl refl refl refl refl no-half refl)
-    (cons (names-by (chained (A 1)) refl refl refl) nil)))))))))))))
+    (cons (names-by (chained (A 1)) refl refl refl) nil))))))))))))))))))

@@ -41,6 +41,12 @@ texts =
     named "xoo*a3*c*b3*c" (group 0 (A 3) ∷ []) ∷
     named "xooo*b3*c*c3*d*a3*d" (group 0 (A 4) ∷ []) ∷
     named "xoooo*b3*c*c3*d*d3*e*a3*d" (group 0 (D 5) ∷ []) ∷
+    -- an affine cycle, two 4s, a 4 and a 5 in chains of five, and E9
+    nameless "x3o3o3*a" 0 ∷
+    nameless "x4o3o4o" 0 ∷
+    nameless "x3o4o3o3o" 0 ∷
+    nameless "x5o3o3o3o" 0 ∷
+    nameless "x3o3o3o3o3o3o3o *c3o" 0 ∷
     -- "Rings, lengths and loops play no part"
     named "s3o4(1.5)*a5*a" (group 0 (B 3) ∷ []) ∷
     -- "For every component, in the order of its lowest node"
