@@ -33,7 +33,8 @@ from collections import Counter, namedtuple
 from functools import lru_cache
 from pathlib import Path
 
-PUBLIC = ("lexicon", "geometry", "lexicon_names", "lexicon_c", "group_names/proofs/OneName.antt: one-name", "lexicon/proofs/Demand3.antt: demand-3", "lexicon/proofs/Demand3.antt: nodes-correspond",
+PUBLIC = ("lexicon", "geometry", "lexicon_names", "lexicon_c", "group_names/proofs/OneName.antt: one-name",
+          "lexicon/proofs/Demand3.antt: demand-3", "lexicon/proofs/Demand3.antt: nodes-correspond",
           "lexicon/proofs/OneAnswer.antt: one-answer", "lexicon/proofs/OneAnswer.antt: one-filing", "lexicon/proofs/Wishes.antt: read-alike",
           "lexicon/proofs/Wishes.antt: accepted-unwished", "lexicon_c/proofs/Demand3.antt: demand-3",
           "lexicon_c/proofs/Demand3.antt: nodes-correspond", "lexicon_c/proofs/Demand3.antt: one-answer", "lexicon_c/proofs/Demand3.antt: one-filing")

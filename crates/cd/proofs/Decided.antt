@@ -1,5 +1,5 @@
--- Tests that decide a statement, and a loop that decides it for all numbers below a bound. Assumes nothing.
-use mathlib.Core.Bool.{Bool, true, false, not, true≢false}
+-- Tests that decide a statement, two that are not both true, and a loop that decides a statement for all numbers below a bound. Assumes nothing.
+use mathlib.Core.Bool.{Bool, true, false, not, _&&_, true≢false}
 use mathlib.Core.Path.{_≡_, refl, sym, _∙_}
 use Prim.Native.Nat.{ℕ, _<_}
 use Rattle.cd.specs.Minimal.{Decides}
@@ -25,6 +25,12 @@ decides-same to from d = record { only-when = λ e. to (d .only-when e); when = 
 pub decides-not : {P : Type 0} {r : Bool} → Decides P r → Decides (P → ⊥) (not r)
 decides-not {r = true} d = decides-no (λ n. n (d .only-when refl))
 decides-not {r = false} d = decides-yes (refutes d refl)
+
+-- two tests that are not both true
+pub and-false : (p q : Bool) → (p ≡ true → q ≡ true → ⊥) → p && q ≡ false
+and-false true true h = absurd (h refl refl)
+and-false true false h = refl
+and-false false q h = refl
 
 -- it fails at one of the numbers below n
 pub decides-not-all : (P : ℕ → Type 0) {i n : ℕ} {r : Bool} → i < n → Decides (P i) r → r ≡ false → Decides ((k : ℕ) → k < n → P k) false

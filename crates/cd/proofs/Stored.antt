@@ -20,13 +20,9 @@ use Rattle.cd.specs.declared.Node.the-variants.{Unringed}
 use Rattle.cd.specs.declared.Pair.{Pair}
 use Rattle.cd.specs.declared.Place.{Place}
 use Rattle.cd.proofs.Arrays.{Same, getD-padded, getD-triangle, set-triangle, triangle-blank}
+use Rattle.cd.proofs.Decided.{and-false}
 
 -- ---- joins
-
-and-false : (p q : Bool) → (p ≡ true → q ≡ true → ⊥) → p && q ≡ false
-and-false true true h = absurd (h refl refl)
-and-false true false h = refl
-and-false false q h = refl
 
 module _ (i j : ℕ) (s : Stored) where
   pub joins-symmetric : joins i j s ≡ joins j i s

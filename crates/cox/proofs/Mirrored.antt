@@ -1,15 +1,11 @@
 -- The test of the entry a, b and the mirrored one: where i, j is a, b; where it is not, but i is b; and where it is neither. Assumes nothing.
-use mathlib.Core.Bool.{Bool, true, false, _&&_}
-use mathlib.Core.Path.{_≡_, refl}
+use mathlib.Core.Bool.{true, false, _&&_}
+use mathlib.Core.Path.{_≡_}
 use Prim.Native.Nat.{ℕ}
 use borrow.Author.Tests.{eqb-true, eq-eqb}
 use lib.Dec.{eqb}
+use Rattle.cd.proofs.Decided.{and-false}
 use Rattle.cox.specs.Families.{isEntry}
-
-and-false : (p q : Bool) → (p ≡ true → q ≡ true → ⊥) → p && q ≡ false
-and-false true true h = absurd (h refl refl)
-and-false true false h = refl
-and-false false q h = refl
 
 module _ (a b i j : ℕ) where
   not-both : (i ≡ a → j ≡ b → ⊥) → eqb i a && eqb j b ≡ false

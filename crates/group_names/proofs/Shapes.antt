@@ -1,6 +1,6 @@
 -- Every family is one shape: node 0 is joined to node b, each other node to the next; the edge that starts at node s has the number l, any other 3. The size, b, s
 -- and l tell the name. No limit of nodes stands here. Assumes nothing.
-use mathlib.Core.Bool.{Bool, true, false, _&&_, _||_}
+use mathlib.Core.Bool.{Bool, true, false, _&&_, _||_, or-false}
 use mathlib.Core.Path.{_≡_, refl, sym, ap, _∙_}
 use Prim.Native.Nat.{ℕ, zero, suc, _+_, _≤_, _<_}
 use native.Mathlib.Decide.{ℕ-discrete}
@@ -8,6 +8,7 @@ use native.Mathlib.Omega.{arith}
 use borrow.Author.Tests.{eq-eqb, ne-eqb, eqb-true, leb-true}
 use lib.Dec.{eqb}
 use Rattle.float.specs.Pick.{pick}
+use Rattle.cd.proofs.Decided.{and-false}
 use Rattle.cox.specs.Families.{isEntry, chain, made}
 use Rattle.group_names.specs.Names.{isName, rank, entry}
 use Rattle.group_names.specs.declared.Name.{Name}
@@ -119,15 +120,6 @@ chain-rising i j h = go (ℕ-discrete j (i + 1))
     go : Dec (j ≡ i + 1) → _≡_ {A = ℕ} (pick (eqb i j) 1 (pick (eqb (i + 1) j || eqb (j + 1) i) 3 2)) (pick (eqb j (i + 1)) 3 2)
     go (yes e) = rw (ne-eqb i j (λ e. omega arith), eq-eqb (i + 1) j (sym e), eq-eqb j (i + 1) e)
     go (no n) = rw (ne-eqb i j (λ e. omega arith), ne-eqb (i + 1) j (λ e. n (sym e)), ne-eqb (j + 1) i (λ e. omega arith), ne-eqb j (i + 1) n)
-
-and-false : (p q : Bool) → (p ≡ true → q ≡ true → ⊥) → p && q ≡ false
-and-false true true h = absurd (h refl refl)
-and-false true false h = refl
-and-false false q h = refl
-
-or-false : (p : Bool) → p || false ≡ p
-or-false true = refl
-or-false false = refl
 
 made-rising : (a b v : ℕ) (f : ℕ → ℕ → ℕ) (i j : ℕ) → a < b → i < j → made a b v f i j ≡ pick (eqb i a && eqb j b) v (f i j)
 unfolding made isEntry

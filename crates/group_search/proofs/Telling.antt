@@ -5,11 +5,11 @@ use Prim.Native.Nat.{ℕ, zero, suc, _+_, _*_, _^_, _≤_, _<_}
 use native.Mathlib.Decide.{decLt}
 use native.Mathlib.Omega.{arith}
 use lib.ListN.{getD}
-use Rattle.cox.specs.Families.{made, isEntry}
 use Rattle.filing.specs.Numberings.{at}
-use Rattle.group_names.specs.Names.{rank, entry}
+use Rattle.group_names.specs.Names.{rank}
 use Rattle.group_names.specs.declared.Name.{Name}
 use Rattle.group_names.specs.declared.Name.the-variants.{A, B, D, E6, E7, E8, F4, H3, H4, I2}
+use Rattle.group_names.proofs.NamesRight.{edges-I2}
 use Rattle.group_search.specs.declared.Known.{Known}
 use Rattle.group_search.specs.declared.Known.the-variants.{Is, Nothing}
 use Rattle.group_search.specs.Steps.{wholeNumber, Embeds, labelCount, Placed, Bond, alone, bound, Mirrored, candidates, Takes, Tells, is, nothing}
@@ -25,10 +25,6 @@ embeds-apart e i j h k s =
             | no g ↦ omega arith
           ]
     ]
-
-first-entry : (p : ℕ) → entry (I2 p) 0 1 ≡ p
-unfolding entry made isEntry
-first-entry p = refl
 
 two-nodes : (p : ℕ) → rank (I2 p) ≡ 2
 unfolding rank
@@ -55,7 +51,7 @@ module _ {N n c m : ℕ} {pairs of : List ℕ} (inside : c < n) (mirrored : Mirr
       two = sym (two-nodes q) ∙ p .size
 
       joined : at pairs (N * p .places 0 + p .places 1) ≡ q * 2 ^ 32 + 1
-      joined = e .agree 0 1 (omega arith) (omega (arith, two)) .joined ∙ ap wholeNumber (first-entry q)
+      joined = e .agree 0 1 (omega arith) (omega (arith, two)) .joined ∙ ap wholeNumber (edges-I2 q)
 
       known : at pairs (N * c + v) ≡ q * 2 ^ 32 + 1 → q ≡ r
       known k = omega (arith, s, k)
