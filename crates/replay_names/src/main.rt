@@ -5,8 +5,9 @@ use group_names::Group;
 use group_names::Groups;
 use group_names::Name;
 use parse::Answer;
-ghost use Prim.Native.Nat.{_+_, _≤_};
+ghost use Prim.Native.Nat.{_+_, _*_, _≤_};
 ghost use lib.ListN.{length};
+ghost use Rattle.cd.specs.Diagrams.{limit};
 
 // A space, and the name as the ticket writes it: ` A3`, ` I2(7)`.
 fn put_name(out: &mut [u8], at: usize, x: Name) -> usize
@@ -35,8 +36,8 @@ fn put_group(out: &mut [u8], at: usize, g: Group) -> usize
 
 // The first n.
 fn put_groups(out: &mut [u8], at: usize, groups: [Group; LIMIT], n: usize) -> usize
-    requires { ⌜ at + 603 ≤ length (now out) ⌝ }
-    ensures { λ r. ⌜ r ≤ at + 603 ⌝ }
+    requires { ⌜ at + 67 * limit ≤ length (now out) ⌝ }
+    ensures { λ r. ⌜ r ≤ at + 67 * limit ⌝ }
 {
     let mut to = at;
     let mut i = 0;
@@ -53,8 +54,8 @@ fn put_groups(out: &mut [u8], at: usize, groups: [Group; LIMIT], n: usize) -> us
 
 // `ok` and how many components there are, then each; or `no` and the figures.
 fn put_answer(out: &mut [u8], at: usize, g: Groups) -> usize
-    requires { ⌜ at + 626 ≤ length (now out) ⌝ }
-    ensures { λ r. ⌜ r ≤ at + 626 ⌝ }
+    requires { ⌜ at + 67 * limit + 23 ≤ length (now out) ⌝ }
+    ensures { λ r. ⌜ r ≤ at + 67 * limit + 23 ⌝ }
 {
     let a = g.answer;
     match a {
@@ -72,8 +73,8 @@ fn put_answer(out: &mut [u8], at: usize, g: Groups) -> usize
 }
 
 fn line(text: &[u8], out: &mut [u8], at: usize) -> usize
-    requires { ⌜ at + 627 ≤ length (now out) ⌝ }
-    ensures { λ r. ⌜ r ≤ at + 627 ⌝ }
+    requires { ⌜ at + 67 * limit + 24 ≤ length (now out) ⌝ }
+    ensures { λ r. ⌜ r ≤ at + 67 * limit + 24 ⌝ }
 {
     let to = put_answer(out, at, lexicon_names::names(text, true));
     lines::put(out, to, b'\n')
