@@ -2,7 +2,7 @@
 -- (edges 3, 4, 3), 1,152; H3, H4, 120 and 14,400; and I2(p), two nodes with a whole p ≥ 5, 2×p." No limit of nodes stands here.
 use mathlib.Core.Bool.{Bool, true}
 use Prim.Native.Char.{code}
-use Prim.Native.Nat.{ℕ, zero, suc, _+_, _-_, _*_, _^_}
+use Prim.Native.Nat.{ℕ, _+_, _-_, _*_, _^_}
 use lib.Dec.{leb}
 use Rattle.cox.specs.Families.{chain, made}
 use Rattle.filing.specs.Factorials.{factorial}

@@ -4,7 +4,7 @@ use mathlib.Core.List.{List}
 use mathlib.Core.Path.{_≡_, sym, ap, _∙_}
 use Prim.Native.Nat.{ℕ}
 use lib.ListN.{length, getD}
-use Rattle.lent.specs.Outcomes.{fitted, lent, told, Lends}
+use Rattle.lent.specs.Outcomes.{fitted, lent, told}
 use Rattle.lent.specs.Shown.{ofGroups}
 use Rattle.lexicon_names.proofs.OneAnswer.{one-answer}
 use Rattle.lexicon_c.specs.Calls.{NamesForC}

@@ -1,12 +1,11 @@
 -- The promise of `names` leaves nothing free: of a text it allows one answer. Assumes nothing.
 use mathlib.Core.Bool.{Bool}
 use mathlib.Core.List.{List}
-use mathlib.Core.Path.{_≡_, sym, ap, _∙_, subst}
+use mathlib.Core.Path.{_≡_, sym, ap, _∙_}
 use Prim.Native.Nat.{ℕ, _≤_}
 use native.Mathlib.Omega.{arith}
 use lib.ListN.{length}
 use Rattle.cd.specs.Diagrams.{Stored, limit}
-use Rattle.cd.specs.declared.CdError.{CdError}
 use Rattle.cd.specs.declared.Node.{Node}
 use Rattle.group_names.specs.Named.{refusal, Names, named, nameless}
 use Rattle.group_names.specs.declared.Groups.{Groups}

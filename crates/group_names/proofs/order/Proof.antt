@@ -7,38 +7,34 @@ use borrow.Author.Needs.{needs}
 use borrow.Author.Tests.{leb-true}
 use Rattle.group_names.specs.Names.{isName, rank, order}
 use Rattle.group_names.specs.declared.Name.{Name}
-use Rattle.group_names.specs.declared.Name.the-variants.{A, B, D}
+use Rattle.group_names.specs.declared.Name.the-variants.{D}
 use Rattle.group_names.proofs.Orders.{product-one, half-product}
 use Rattle.group_names.proofs.order.Statement.{statement}
 use Rattle.group_names.proofs.order.Tie as tie
 
-size-A : {x : Name} {n : ℕ} → x ≡ A n → rank x ≤ 15 → n ≤ 15
-unfolding rank
-size-A e h = rw e at h
-
-size-B : {x : Name} {n : ℕ} → x ≡ B n → rank x ≤ 15 → n ≤ 15
-unfolding rank
-size-B e h = rw e at h
-
-size-D : {x : Name} {n : ℕ} → x ≡ D n → rank x ≤ 15 → n ≤ 15
-unfolding rank
-size-D e h = rw e at h
+-- the size of the case that x is
+small : {x y : Name} → x ≡ y → rank x ≤ 15 → rank y ≤ 15
+small e h = subst (λ z. rank z ≤ 15) e h
 
 least-D : {x : Name} {n : ℕ} → x ≡ D n → isName x ≡ true → 4 ≤ n
 unfolding isName
 least-D {n = n} e h = leb-true 4 n (rw e at h)
 
 add-multiples : tie.Need-add-multiples
-add-multiples c = omega (arith, size-A (c .before .x .given .1) (c .before .before .before .pre .1))
+unfolding rank
+add-multiples c = omega (arith, small (c .before .x .given .1) (c .before .before .before .pre .1))
 
 multiples-requires : tie.Need-multiples-requires
-multiples-requires c κs = (omega arith, omega arith, omega (arith, size-A (c .before .x .given .1) (c .before .before .before .pre .1)))
+unfolding rank
+multiples-requires c κs = (omega arith, omega arith, omega (arith, small (c .before .x .given .1) (c .before .before .before .pre .1)))
 
 multiples-requires-2 : tie.Need-multiples-requires-2
-multiples-requires-2 c κs = (omega arith, omega arith, omega (arith, size-B (c .before .x2 .given .1) (c .before .before .before .pre .1)))
+unfolding rank
+multiples-requires-2 c κs = (omega arith, omega arith, omega (arith, small (c .before .x2 .given .1) (c .before .before .before .pre .1)))
 
 multiples-requires-3 : tie.Need-multiples-requires-3
-multiples-requires-3 c κs = (omega arith, omega arith, omega (arith, size-D (c .before .x3 .given .1) (c .before .before .before .pre .1)))
+unfolding rank
+multiples-requires-3 c κs = (omega arith, omega arith, omega (arith, small (c .before .x3 .given .1) (c .before .before .before .pre .1)))
 
 returns : tie.Need-returns
 unfolding order

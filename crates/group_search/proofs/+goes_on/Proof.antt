@@ -1,9 +1,8 @@
 -- The cycle of calls {goes_on} meets its contract: the measure is m − k, the loop's invariant `Tried` of Placing.antt, whose laws answer the needs. Assumes nothing.
-use mathlib.Core.Bool.{true≢false}
 use mathlib.Core.Logic.{⊎-elim}
-use mathlib.Core.Path.{refl, sym, _∙_}
 use native.Mathlib.Omega.{arith}
 use Rattle.cd.specs.Diagrams.{limit}
+use Rattle.cd.proofs.Decided.{decides-yes, decides-no, refutes}
 use Rattle.group_search.specs.Steps.{Wants}
 use Rattle.group_search.proofs.Placing.{Tried, ready-deeper, all-placed, tried-none, tried-label, tried-unsuited, tried-deeper, goes-deeper, tried-all}
 use Prim.Native.Nat.{ℕ, _-_, _≤_, _<_}
@@ -47,7 +46,7 @@ wants : (t : ℕ) (c : goes-on-lts.In-loop (known t) (goes-on-at t) goes-on.Post
 wants t c = c .before .before .wanted .ensures
 
 goes-on-returns : (t : ℕ) → goes-on-lts.Need-returns (known t) (goes-on-at t) goes-on.Post Inv μ
-goes-on-returns t c = record { only-when = λ _. all-placed (c .before .pre .1) (c .if1 .taken); when = λ _. refl }
+goes-on-returns t c = decides-yes (all-placed (c .before .pre .1) (c .if1 .taken))
 
 goes-on-wanted-requires : (t : ℕ) → goes-on-lts.Need-wanted-requires (known t) (goes-on-at t) goes-on.Post Inv μ
 goes-on-wanted-requires t c κs = let r = c .before .pre .1 in omega (arith, r .depth, r .small)
@@ -85,7 +84,7 @@ goes-on-goes-on-requires t c κs =
 goes-on-returns-2 : (t : ℕ) → goes-on-lts.Need-returns-2 (known t) (goes-on-at t) goes-on.Post Inv μ
 goes-on-returns-2 t c =
     let i = c .before .before .before .before .before .before .before .before in
-    record { only-when = λ _. goes-deeper (start t i .pre .1) (below t i) (i .before .loop .inv .1) (c .before .goes-on .ensures .only-when (c .if4 .taken)); when = λ _. refl }
+    decides-yes (goes-deeper (start t i .pre .1) (below t i) (i .before .loop .inv .1) (c .before .goes-on .ensures .only-when (c .if4 .taken)))
 
 goes-on-add-v : (t : ℕ) → goes-on-lts.Need-add-v (known t) (goes-on-at t) goes-on.Post Inv μ
 goes-on-add-v t c = omega arith
@@ -99,9 +98,9 @@ goes-on-loop-again t c =
     let r = start t i .pre .1 in (
       omega arith,
       ⊎-elim
-          (λ w. tried-deeper r (below t i) (i .before .loop .inv .1) (λ g. true≢false (sym (w .5 .ensures .when g) ∙ w .6 .left)))
+          (λ w. tried-deeper r (below t i) (i .before .loop .inv .1) (refutes (w .5 .ensures) (w .6 .left)))
           (⊎-elim
-          (λ w. tried-unsuited r (below t i) (i .before .loop .inv .1) (λ s. true≢false (sym (w .3 .ensures _ (wants t i) .when s) ∙ w .4 .left)))
+          (λ w. tried-unsuited r (below t i) (i .before .loop .inv .1) (refutes (w .3 .ensures _ (wants t i)) (w .4 .left)))
           (λ w. tried-label r (below t i) (i .before .loop .inv .1) (w .left)))
           (c .if2 .came),
     )
@@ -110,7 +109,7 @@ goes-on-returns-3 : (t : ℕ) → goes-on-lts.Need-returns-3 (known t) (goes-on-
 goes-on-returns-3 t c =
     let s = c .before .before .before .before in
     let hk : s .args .k < s .args .m = omega (arith, s .pre .1 .depth) in
-    record { only-when = λ e. absurd (true≢false (sym e)); when = λ g. absurd (tried-all (s .pre .1) hk (c .before .loop .inv .1) (c .loop-test .left) g) }
+    decides-no (tried-all (s .pre .1) hk (c .before .loop .inv .1) (c .loop-test .left))
 
 pub +goes-on-spec : {M : Type 1} → statement M
 +goes-on-spec = close μ-goes-on λ t. goes-on-lts.spec (known t)

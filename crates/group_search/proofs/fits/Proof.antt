@@ -3,16 +3,17 @@ use mathlib.Core.Bool.{true≢false}
 use mathlib.Core.Path.{refl, sym, _∙_}
 use native.Mathlib.Nat.{not-suc-le-zero}
 use borrow.Author.Tests.{not-true, not-false}
+use Rattle.cd.proofs.Decided.{decides-no}
 use Rattle.group_search.proofs.Placing.{ready-start}
 use borrow.Author.Needs.{needs}
 use Rattle.group_search.proofs.fits.Statement.{statement}
 use Rattle.group_search.proofs.fits.Tie as tie
 
 returns : tie.Need-returns
-returns c = record { only-when = λ e. absurd (true≢false (sym e)); when = λ p. absurd (true≢false (sym (p .valid) ∙ sym (c .before .is-name .ensures) ∙ not-true _ (c .if1 .taken))) }
+returns c = decides-no (λ p. true≢false (sym (p .valid) ∙ sym (c .before .is-name .ensures) ∙ not-true _ (c .if1 .taken)))
 
 returns-2 : tie.Need-returns-2
-returns-2 c = record { only-when = λ e. absurd (true≢false (sym e)); when = λ p. absurd (c .if2 .taken (c .before .rank .ensures ∙ p .size)) }
+returns-2 c = decides-no (λ p. c .if2 .taken (c .before .rank .ensures ∙ p .size))
 
 goes-on-requires : tie.Need-goes-on-requires
 goes-on-requires c κs = let s = c .before .before .before .before in ready-start _ _ _ _ (s .pre .0) (s .pre .1) refl

@@ -1,6 +1,5 @@
 -- `group_search::name` meets its contract. The invariant: no candidate below k fits, so that once all are tried no name does (Telling.antt). Assumes nothing.
-use mathlib.Core.Bool.{true≢false}
-use mathlib.Core.Path.{refl, sym, _∙_}
+use mathlib.Core.Path.{refl}
 use Prim.Native.Nat.{ℕ, _-_, _≤_, _<_}
 use native.Mathlib.Nat.{not-suc-le-zero}
 use native.Mathlib.Omega.{arith}
@@ -8,6 +7,7 @@ use borrow.Author.Count.{below-more}
 use borrow.Author.Needs.{needs}
 use lib.ListN.{getD}
 use Rattle.cd.specs.Diagrams.{limit}
+use Rattle.cd.proofs.Decided.{refutes}
 use Rattle.group_names.specs.declared.Name.the-variants.{A}
 use Rattle.group_search.specs.Steps.{Placed}
 use Rattle.group_search.proofs.Telling.{none-left, told, told-nothing}
@@ -32,7 +32,7 @@ returns c =
     told (l .before .before .before .label-count .ensures .0) (c .before .fits2 .ensures .only-when (c .if1 .taken)) refl
 
 loop-again : tie.Need-loop-again Inv-loop μ-loop
-loop-again c = (search needs, below-more _ _ (c .before .before .before .before .loop .inv .1) (λ p. true≢false (sym (c .before .fits2 .ensures .when p) ∙ c .if1 .left)))
+loop-again c = (search needs, below-more _ _ (c .before .before .before .before .loop .inv .1) (refutes (c .before .fits2 .ensures) (c .if1 .left)))
 
 returns-2 : tie.Need-returns-2 Inv-loop μ-loop
 returns-2 c =

@@ -2,13 +2,13 @@
 -- Assumes nothing.
 use borrow.Author.Needs.{needs}
 use Prim.Native.Nat.{ℕ, _+_, _-_, _*_, _≤_, _<_}
-use mathlib.Core.Bool.{true≢false}
 use mathlib.Core.List.{List}
 use mathlib.Core.Logic.{_≢_}
-use mathlib.Core.Path.{_≡_, refl, sym, _∙_, subst}
+use mathlib.Core.Path.{_≡_, sym, _∙_, subst}
 use native.Mathlib.Decide.{ℕ-discrete}
 use native.Mathlib.Omega.{arith}
 use Rattle.cd.specs.Diagrams.{limit}
+use Rattle.cd.proofs.Decided.{decides-yes, decides-no}
 use Rattle.filing.specs.Numberings.{at}
 use Rattle.group_search.proofs.suits.Statement.{statement}
 use Rattle.group_search.proofs.suits.Tie as tie
@@ -37,7 +37,7 @@ loop-holds c = (search needs, λ j h l. absurd (omega arith))
 returns : tie.Need-returns Inv-loop μ-loop
 returns c = λ x h.
     let l = c .before .before .before in
-    record { only-when = λ e. absurd (true≢false (sym e)); when = λ s. absurd (s (l .loop .i - 1) (omega arith) .other (c .if1 .taken)) }
+    decides-no (λ s. s (l .loop .i - 1) (omega arith) .other (c .if1 .taken))
 
 pair-at-requires : tie.Need-pair-at-requires Inv-loop μ-loop
 pair-at-requires c κs = (c .before .before .before .before .pre .2 (c .before .before .before .loop .i - 1) (omega arith), search needs)
@@ -47,10 +47,7 @@ returns-2 c = λ x h.
     let l = c .before .before .before .before .before .before in
     let i = l .loop .i - 1 in
     let low : i < l .before .args .k = omega arith in
-    record {
-      only-when = λ e. absurd (true≢false (sym e));
-      when = λ s. absurd (c .if2 .taken (c .before .before .pair-at .ensures ∙ s i low .joined ∙ sym (h i low)));
-    }
+    decides-no (λ s. c .if2 .taken (c .before .before .pair-at .ensures ∙ s i low .joined ∙ sym (h i low)))
 
 loop-again : tie.Need-loop-again Inv-loop μ-loop
 loop-again c =
@@ -61,7 +58,7 @@ loop-again c =
     )
 
 returns-3 : tie.Need-returns-3 Inv-loop μ-loop
-returns-3 c = λ x h. record { only-when = λ _ i l. let m = c .before .loop .inv .1 i (omega arith) l in record { other = m .0; joined = m .1 ∙ h i l }; when = λ _. refl }
+returns-3 c = λ x h. decides-yes (λ i l. let m = c .before .loop .inv .1 i (omega arith) l in record { other = m .0; joined = m .1 ∙ h i l })
 
 pub suits-spec : {M : Type 1} → statement M
 suits-spec =
