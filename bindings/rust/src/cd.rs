@@ -121,7 +121,7 @@ impl Cd {
         self.diagram.nodes.len()
     }
 
-    /// The number of stored edges, loops included.
+    /// The number of stored edges, loops included. Texts of one figure may differ in their loops.
     #[must_use]
     pub fn edge_count(&self) -> usize {
         self.diagram.edges.len()
@@ -159,6 +159,10 @@ impl Cd {
 
     /// The figure's filing record. Two texts have the same record exactly when they draw the same
     /// figure, whichever way they number its nodes and write its fractions; loops play no part.
+    ///
+    /// What an article tells of a figure may be computed from any of its texts. Where two have the same
+    /// record, so do they have the same [`Cd::minimal`], as many [`Cd::edges`] that are no loops, and the
+    /// same [`Groups::names`] and orders, or [`CdError::NoName`] both, of nodes that may differ.
     ///
     /// The more nodes are alike, the longer it takes: nine different ones about 1 µs, nine alike in a
     /// chain about 25 µs, nine alike that nothing joins about 7 ms.

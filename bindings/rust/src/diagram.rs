@@ -123,6 +123,14 @@ pub struct StoredEdge {
     pub edge: Edge,
 }
 
+impl StoredEdge {
+    /// Whether the edge joins a node to itself.
+    #[must_use]
+    pub fn is_loop(&self) -> bool {
+        self.a == self.b
+    }
+}
+
 /// The nodes and edges of a diagram, as plain data.
 ///
 /// A [`Cd`](crate::Cd) has one and the text beside it; a diagram that is read back from a

@@ -22,7 +22,10 @@ use crate::{diagram::part, ffi::NAMES};
 /// ```compile_fail,E0639
 /// let name = lexicon::GroupName::A { n: 0 };
 /// ```
-#[derive(Clone, Copy, Debug, PartialEq, Eq, Hash)]
+///
+/// Names are ordered as they are listed here, and those of a family by their number, so that they can
+/// be sorted.
+#[derive(Clone, Copy, Debug, PartialEq, Eq, PartialOrd, Ord, Hash)]
 pub enum GroupName {
     /// A chain of 3s, the group of a simplex. Its order is (n + 1)!.
     #[non_exhaustive]
@@ -173,8 +176,8 @@ impl Group {
     }
 }
 
-/// The finite groups of a diagram's components, by rising lowest node: a slice of them, and the order
-/// of the whole.
+/// The finite groups of a diagram's components, by rising lowest node: a slice of them, their names
+/// sorted, and the order of the whole.
 ///
 /// ```
 /// use lexicon::Cd;
@@ -194,6 +197,25 @@ impl Groups {
     pub(crate) fn from_numbers(numbers: &[u64; NAMES], count: usize) -> Self {
         let components = numbers.as_chunks().0.iter().take(count);
         Self(components.map(Group::from_numbers).collect())
+    }
+
+    /// The names, sorted. Every text of a figure has the same ones, each as often, so that this list does
+    /// not depend on the order in which the components were typed, as the slice does.
+    ///
+    /// ```
+    /// use lexicon::Cd;
+    ///
+    /// let [prism, typed_otherwise] = ["x7o x3o3o", "x3o3o x7o"].map(Cd::parse);
+    /// let [prism, typed_otherwise] = [prism?.groups()?, typed_otherwise?.groups()?];
+    /// assert_eq!(prism.names(), typed_otherwise.names());
+    /// assert_ne!(prism[0].name(), typed_otherwise[0].name());
+    /// # Ok::<(), lexicon::CdError>(())
+    /// ```
+    #[must_use]
+    pub fn names(&self) -> Vec<GroupName> {
+        let mut names: Vec<_> = self.iter().map(Group::name).collect();
+        names.sort_unstable();
+        names
     }
 
     /// The order of the diagram's whole group, which is the product of the components' groups: the

@@ -115,6 +115,9 @@ pub place-falling : (a b : ℕ) → b ≤ a → placeOf a b ≡ a * (a + 1) / 2 
 unfolding placeOf
 place-falling a b h = rw (le-ltb a b h)
 
+pub place-below : (n a b : ℕ) → a < b → b < n → placeOf a b < n * (n + 1) / 2
+place-below n a b l h = rw (place-rising a b l) (before-start n a b (omega arith) h)
+
 pub place-symmetric : (a b : ℕ) → placeOf a b ≡ placeOf b a
 place-symmetric a b =
     elim (decLt a b) [

@@ -1,10 +1,10 @@
 -- An edge that is stored after the others changes what joins its own two nodes, if nothing did, and no other pair: so the array of all pairs
 -- changes in that pair's place alone. A pair has a rank exactly where a stored edge joins it. Assumes nothing.
 use Prim.Native.Nat.{ℕ, suc, _+_, _<_}
-use mathlib.Core.Bool.{Bool, true, false, _&&_, _||_, or-comm}
+use mathlib.Core.Bool.{Bool, true, false, _&&_, _||_, or-comm, or-assoc}
 use mathlib.Core.List.{List, [], _∷_, _++_, map}
 use mathlib.Core.Logic.{inl, inr, ⊎-elim}
-use mathlib.Core.Path.{_≡_, refl, ap, _∙_}
+use mathlib.Core.Path.{_≡_, refl, sym, ap, _∙_}
 use native.Mathlib.Nat.{add-comm, add-zero, not-suc-le-zero}
 use native.Mathlib.Omega.{arith}
 use borrow.Author.Tests.{eqb-true, eq-eqb, lt-ltb}
@@ -45,12 +45,19 @@ module _ (i j : ℕ) (s : Stored) where
         and-false (eqb (s .first) j) (eqb (s .other) i) (λ p q. h (inr (eqb-true (s .first) j p, eqb-true (s .other) i q))),
       )
 
--- ---- between
+-- ---- whether an edge joins two nodes
 
 pub joined-symmetric : (es : List Stored) (i j : ℕ) → isJoined es i j ≡ isJoined es j i
 unfolding isJoined
 joined-symmetric [] i j = refl
 joined-symmetric (s ∷ es) i j = rw (joins-symmetric i j s, joined-symmetric es i j)
+
+pub joined-append : (es : List Stored) (s : Stored) (i j : ℕ) → isJoined (es ++ (s ∷ [])) i j ≡ isJoined es i j || joins i j s
+unfolding isJoined
+joined-append [] s i j = or-comm (joins i j s) false
+joined-append (e ∷ es) s i j = rw (joined-append es s i j) (sym (or-assoc (joins i j e) (isJoined es i j) (joins i j s)))
+
+-- ---- between
 
 pub between-symmetric : (k : ℕ) (es : List Stored) (i j : ℕ) → between k es i j ≡ between k es j i
 unfolding between

@@ -10,5 +10,6 @@ pub mod Searching
 pub mod First
 pub mod Readback
 pub mod LaidOut
+pub mod Sums
 pub mod Groups
 pub mod Sequences

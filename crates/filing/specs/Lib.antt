@@ -7,5 +7,6 @@ pub mod Records
 pub mod First
 pub mod Readable
 pub mod Factorials
+pub mod Counts
 pub mod Groups
 pub mod Sequences

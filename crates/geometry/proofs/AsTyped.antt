@@ -35,7 +35,7 @@ quotient-reduced e n d p =
     same-quotient _ _ (e .num) (e .den) (omega (arith, lowest-num-le x)) (omega (arith, lowest-den-le x)) (omega arith) (omega arith)
     (lowest-positive x p) p (lowest-is-same x)
 
-between-kept : {n : ℕ} (ts : List Stored) (i j : ℕ) → All (SoundEdge n) ts → between (map keptEdge ts) i j ≡ between ts i j
+between-kept : (ts : List Stored) (i j : ℕ) → All SoundEdge ts → between (map keptEdge ts) i j ≡ between ts i j
 unfolding between joins
 between-kept [] i j nil = refl
 between-kept (s ∷ ts) i j (cons h hs) =

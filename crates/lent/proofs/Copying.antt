@@ -1,12 +1,12 @@
 -- Elements stored one by one, and in runs of one length. Assumes nothing.
 use mathlib.Core.List.{List, [], _∷_, _++_, append-assoc, append-nil}
 use mathlib.Core.Path.{_≡_, refl, sym, ap, _∙_}
-use Prim.Native.Nat.{ℕ, suc, _+_, _-_, _*_, _≤_, _<_}
-use native.Mathlib.Nat.{add-zero}
+use Prim.Native.Nat.{ℕ, zero, suc, _+_, _-_, _*_, _≤_, _<_}
+use native.Mathlib.Nat.{add-zero, not-suc-le-zero, le-of-suc-le-suc}
 use native.Mathlib.Numerals.{add-one}
 use native.Mathlib.Omega.{arith}
-use lib.ListN.{length, take, getD, set, replicate, length-append}
-use lib.Seq.{sets, take-suc, take-all, length-take-le, length-sets}
+use lib.ListN.{length, take, getD, set, replicate, length-append, List·getD-append}
+use lib.Seq.{sets, take-suc, take-all, length-take-le, length-sets, getD-append-add}
 use Rattle.lent.specs.Shown.{flat}
 
 module _ {A : Type 0} where
@@ -45,6 +45,17 @@ module _ {A B : Type 0} (f : A → List B) where
   flat-suc : (xs : List A) (i : ℕ) (d : A) → i < length xs → flat f (take (i + 1) xs) ≡ flat f (take i xs) ++ f (getD xs i d)
   unfolding flat
   flat-suc xs i d h = rw (add-one, take-suc xs i d h, flat-append, append-nil)
+
+  -- element i of run k
+  pub flat-at : (w : ℕ) → ((x : A) → length (f x) ≡ w) → (xs : List A) (k i : ℕ) (d : A) (e : B) → k < length xs → i < w → getD (flat f xs) (w * k + i) e ≡ getD (f (getD xs k d)) i e
+  unfolding flat
+  flat-at w h [] k i d e l m = absurd (not-suc-le-zero l)
+  flat-at w h (x ∷ xs) zero i d e l m =
+      let z : w * zero + i ≡ i = omega arith in
+      rw z (List·getD-append (f x) (flat f xs) e i (omega (arith, h x)))
+  flat-at w h (x ∷ xs) (suc k) i d e l m =
+      let z : w * suc k + i ≡ length (f x) + (w * k + i) = omega (arith, h x) in
+      rw z (getD-append-add (f x) (flat f xs) (w * k + i) e ∙ flat-at w h xs k i d e (le-of-suc-le-suc l) m)
 
   pub flat-length : (w : ℕ) → ((x : A) → length (f x) ≡ w) → (xs : List A) → length (flat f xs) ≡ w * length xs
   unfolding flat

@@ -4,8 +4,8 @@ use mathlib.Core.Path.{_≡_, refl, sym, ap, subst, _∙_}
 use Prim.Native.Nat.{ℕ, _*_, _≤_, _<_}
 use native.Mathlib.Omega.{arith}
 use borrow.Author.Tests.{lt-ltb, le-ltb}
-use lib.ListN.{length, getD, length-append}
-use lib.Seq.{sets}
+use lib.ListN.{length, getD, drop, length-append, List·getD-append}
+use lib.Seq.{sets, sets-eq}
 use Rattle.cd.specs.Arrays.{padded}
 use Rattle.cd.specs.Diagrams.{limit, pairLimit}
 use Rattle.cd.specs.Refusals.{numberOf}
@@ -42,6 +42,26 @@ module _ {A : Type 0} (a : Answer) (fs : List ℕ) (xs out out′ : List A) (ans
       → Lends (outcome a fs xs) out out′ answer′ r
   unfolding outcome fitted lent told
   lends-shown h l s t = lends (Shows fs xs) (rw (h, le-ltb (length out) (length xs) l)) s t
+
+-- what a call with room enough has told and shown
+module _ {A : Type 0} {a : Answer} {fs : List ℕ} {xs out out′ : List A} {answer′ : List ℕ} {r : ℕ} (l : Lends (outcome a fs xs) out out′ answer′ r) (accepted : a ≡ said.Accepted) (room : length xs ≤ length out) where
+  fits : fitted (length out) (outcome a fs xs) ≡ Shows fs xs
+  unfolding outcome fitted
+  fits = rw (accepted, le-ltb (length out) (length xs) room)
+
+  pub shown-told : answer′ ≡ padded 0 4 (0 ∷ fs)
+  unfolding told
+  shown-told = l .answer ∙ ap told fits
+
+  pub shown-returned : r ≡ 0
+  unfolding padded
+  shown-returned = l .returned ∙ ap (λ z. getD z 0 0) shown-told
+
+  pub shown-at : (k : ℕ) (d : A) → k < length xs → getD out′ k d ≡ getD xs k d
+  unfolding lent
+  shown-at k d h =
+      ap (λ z. getD z k d) (l .slice ∙ ap (λ o. lent o out) fits ∙ sets-eq xs out 0 (omega arith))
+      ∙ List·getD-append xs (drop (0 + length xs) out) d k h
 
 -- of the same thing, told in two ways
 pub lends-same : {A B : Type 0} (of : B → Outcome A) {x y : B} {out out′ : List A} {answer′ : List ℕ} {r : ℕ} → x ≡ y → Lends (of x) out out′ answer′ r

@@ -1,5 +1,5 @@
 -- The diagram of every accepted text can be filed: its values are doubles and no nan, so their patterns are those of numbers, and what joins two nodes is
--- a valid edge in lowest terms, or 2/1. Assumes nothing.
+-- a valid edge in lowest terms, or 2/1. Its stored edges are tidy. Assumes nothing.
 use Prim.Native.Nat.{ℕ, zero, suc, _^_, _<_}
 use mathlib.Core.Bool.{Bool, true, false}
 use mathlib.Core.List.{List, [], _∷_, map}
@@ -27,7 +27,8 @@ use Rattle.tables.specs.Tables.{IsNumber, IsPair, IsKept}
 use Rattle.tables.proofs.Joints.{two-edge, joint-symmetric}
 use Rattle.lexicon.specs.All.{All, nil, cons}
 use Rattle.lexicon.proofs.SoundNodes.{picked}
-use Rattle.lexicon.proofs.Sound.{Sound, unringed, ringed, snub, SoundEdge, sound-nodes, sound-edges}
+use Rattle.lexicon.proofs.Sound.{Sound, unringed, ringed, snub, SoundEdge, sound-nodes, sound-edges, tidy-edges}
+use Rattle.lexicon.proofs.Tidy.{Tidy, tidy-kept}
 
 -- ---- nodes
 
@@ -72,7 +73,7 @@ kept-pair : (e : Edge) → IsEdge (fraction e) → IsPair (fraction (reduced e))
 unfolding reduced
 kept-pair e h = (lowest-edge h, lowest-twice (fraction e) (h .den-pos))
 
-joint-pair : {n : ℕ} (ts : List Stored) (i j : ℕ) → All (SoundEdge n) ts → IsPair (joint (map keptEdge ts) i j)
+joint-pair : (ts : List Stored) (i j : ℕ) → All SoundEdge ts → IsPair (joint (map keptEdge ts) i j)
 unfolding joint joins
 joint-pair [] i j nil = (two-edge, lowest-whole 2)
 joint-pair (s ∷ ts) i j (cons h hs) = picked IsPair (joins i j s) (kept-pair (s .edge) (valid-edge (s .edge) (h .num-fits) (h .valid))) (joint-pair ts i j hs)
@@ -101,6 +102,9 @@ module _ (wish : Bool) (s : List ℕ) (ns : List Node) (es : List Stored) (h : r
   pub accepted-kept : IsKept limit (diagram ns es)
   unfolding diagram
   accepted-kept = record { is = accepted-diagram; lowest-terms = λ i j l m ne. pair i j .1 }
+
+  pub accepted-tidy : Tidy (length ns) es
+  accepted-tidy = rw (t .kept) (tidy-kept (tidy-edges wish s ns (t .edges) (t .read)))
 
   pub accepted-numbers : (i : ℕ) → i < length ns → IsNumber (getD ns i Unringed)
   accepted-numbers i l = sound-number (all-at ns i nodes-sound l)

@@ -1,5 +1,6 @@
 pub mod Answers
 mod SoundNodes
+pub mod Tidy
 pub mod Sound
 pub mod Fileable
 pub mod OneAnswer

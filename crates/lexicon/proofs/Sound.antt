@@ -1,18 +1,20 @@
--- What holds of the diagram of every accepted text, the edges as typed: a node's value is a double and no nan, without the wish no infinity, and an edge is valid, of 32-bit numbers, and
--- between nodes that exist. By induction on the turns of reading, then on the queue: a run refuses a part of 2 ^ 32 or more as it closes, so no edge that waits has one, and
--- joining stores only edges that waited, at indices below the number of nodes. Assumes nothing.
+-- What holds of the diagram of every accepted text, the edges as typed: a node's value is a double and no nan, without the wish no infinity, an edge is valid and of 32-bit numbers, and
+-- the edges are tidy. By induction on the turns of reading, then on the queue: a run refuses a part of 2 ^ 32 or more as it closes, so no edge that waits has one, and
+-- joining stores only edges that waited and are no two, at indices below the number of nodes, where no edge is stored yet. Assumes nothing.
 use Prim.Native.Nat.{ℕ, zero, suc, _+_, _-_, _^_, _<_}
-use mathlib.Core.Bool.{Bool, true, and-eq-true-iff}
+use mathlib.Core.Bool.{Bool, true, false, and-eq-true-iff}
 use mathlib.Core.List.{List, [], _∷_, _++_}
 use mathlib.Core.Path.{_≡_, refl}
 use native.Mathlib.Omega.{arith}
 use borrow.Author.Tests.{ltb-true}
 use lib.Dec.{ltb, leb}
 use lib.ListN.{length, drop}
+use Rattle.float.specs.Pick.{pick}
 use Rattle.cd.specs.Diagrams.{Stored, limit, isJoined}
 use Rattle.cd.specs.Edges.{isEdge, isTwo}
 use Rattle.cd.specs.References.{indexOf, bothOf, endsOf}
 use Rattle.cd.specs.declared.CdError.{CdError}
+use Rattle.cd.specs.declared.CdError.the-variants.{RepeatEdge}
 use Rattle.cd.specs.declared.Edge.{Edge}
 use Rattle.cd.specs.declared.EdgeRef.{EdgeRef}
 use Rattle.cd.specs.declared.Ends.{Ends}
@@ -43,11 +45,11 @@ use Rattle.lexicon.specs.All.{All, nil, cons}
 use Rattle.lexicon.proofs.SoundNodes.{picked, tested, SoundRead, node-sound}
 pub use Rattle.lexicon.proofs.SoundNodes.{Sound, unringed, ringed, snub}
 use Rattle.lexicon.proofs.SoundNodes as nodes
+use Rattle.lexicon.proofs.Tidy.{Tidy, more}
+use Rattle.lexicon.proofs.Tidy as tidy
 
--- a valid edge of 32-bit numbers, den being below num, that joins two of n nodes, or one to itself
-pub record SoundEdge (n : ℕ) (s : Stored) : Type 0 where
-  pub first-in : s .first < n
-  pub other-in : s .other < n
+-- a valid edge of 32-bit numbers, den being below num
+pub record SoundEdge (s : Stored) : Type 0 where
   pub num-fits : s .edge .num < 2 ^ 32
   pub valid : isEdge (s .edge .num) (s .edge .den) ≡ true
 
@@ -175,68 +177,80 @@ unfolding indexOf
 index-inside (Absolute k) n = tested (Inside n) (ltb k n) (λ h. at (ltb-true k n h)) missing
 index-inside (Negative k) n = tested (Inside n) (ltb k n) (λ h. let l : n - 1 - k < n = omega (arith, ltb-true k n h) in at l) missing
 
-data BothInside (n : ℕ) : Ends → Type 0 where
-  dropped : BothInside n ends.Dropped
-  missing : BothInside n ends.Missing
-  both : {a b : ℕ} → a < n → b < n → BothInside n (ends.Both a b)
+-- if both were found, the edge is no two and they are of n
+data BothInside (e : Edge) (n : ℕ) : Ends → Type 0 where
+  dropped : BothInside e n ends.Dropped
+  missing : BothInside e n ends.Missing
+  both : {a b : ℕ} → isTwo e ≡ false → a < n → b < n → BothInside e n (ends.Both a b)
 
-both-inside : {n : ℕ} {a b : Found} → Inside n a → Inside n b → BothInside n (bothOf a b)
+both-inside : {e : Edge} {n : ℕ} {a b : Found} → isTwo e ≡ false → Inside n a → Inside n b → BothInside e n (bothOf a b)
 unfolding bothOf
-both-inside missing b = missing
-both-inside (at h) missing = missing
-both-inside (at h) (at k) = both h k
+both-inside t missing b = missing
+both-inside t (at h) missing = missing
+both-inside t (at h) (at k) = both t h k
 
-ends-inside : (e : EdgeRef) (n : ℕ) → BothInside n (endsOf e n)
+ends-inside : (e : EdgeRef) (n : ℕ) → BothInside (e .edge) n (endsOf e n)
 unfolding endsOf
-ends-inside e n = picked (BothInside n) (isTwo (e .edge)) dropped (both-inside (index-inside (e .first) n) (index-inside (e .other) n))
+ends-inside e n = go (isTwo (e .edge)) refl
+  where
+    go : (t : Bool) → isTwo (e .edge) ≡ t → BothInside (e .edge) n (pick t ends.Dropped (bothOf (indexOf (e .first) n) (indexOf (e .other) n)))
+    go true h = dropped
+    go false h = both-inside h (index-inside (e .first) n) (index-inside (e .other) n)
 
 data SoundJoined (n : ℕ) : Joined → Type 0 where
-  edges : {es : List Stored} → All (SoundEdge n) es → SoundJoined n (Edges es)
+  edges : {es : List Stored} → All SoundEdge es → Tidy n es → SoundJoined n (Edges es)
   refused : {r : CdError} → SoundJoined n (joining.Refused r)
 
 joined-onto : {n : ℕ} {j : Joined} {f : List Stored → Joined} → SoundJoined n j
-    → ((es : List Stored) → All (SoundEdge n) es → SoundJoined n (f es)) → SoundJoined n (joining.onto j f)
-joined-onto (edges {es} h) f = f es h
+    → ((es : List Stored) → All SoundEdge es → Tidy n es → SoundJoined n (f es)) → SoundJoined n (joining.onto j f)
+joined-onto (edges {es} h w) f = f es h w
 joined-onto refused f = refused
 
-join-one-sound : {n : ℕ} {x : Ends} (e : Edge) (k : ℕ) (es : List Stored) → BothInside n x → IsFraction e → All (SoundEdge n) es → SoundJoined n (joinOne x e k es)
+join-one-sound : {n : ℕ} {x : Ends} (e : Edge) (k : ℕ) (es : List Stored) → BothInside e n x → IsFraction e → All SoundEdge es → Tidy n es → SoundJoined n (joinOne x e k es)
 unfolding joinOne
-join-one-sound e k es dropped f h = edges h
-join-one-sound e k es missing f h = refused
-join-one-sound {n} e k es (both {a} {b} p q) f h =
-    picked (SoundJoined n) (isJoined es a b) refused (edges (all-append h (record { first-in = p; other-in = q; num-fits = f .0; valid = f .1 })))
+join-one-sound e k es dropped f h w = edges h w
+join-one-sound e k es missing f h w = refused
+join-one-sound {n} e k es (both {a} {b} t p q) f h w = go (isJoined es a b) refl
+  where
+    go : (j : Bool) → isJoined es a b ≡ j → SoundJoined n (pick j (joining.Refused (RepeatEdge a b)) (Edges (es ++ (record { first = a; other = b; edge = e } ∷ []))))
+    go true o = refused
+    go false o = edges (all-append h (record { num-fits = f .0; valid = f .1 })) (more w (record { first-in = p; other-in = q; no-two = t; apart = o }))
 
-join-all-sound : (n : ℕ) (q : List EdgeRef) (k : ℕ) (es : List Stored) → All Waits q → All (SoundEdge n) es → SoundJoined n (joinAll n q k es)
+join-all-sound : (n : ℕ) (q : List EdgeRef) (k : ℕ) (es : List Stored) → All Waits q → All SoundEdge es → Tidy n es → SoundJoined n (joinAll n q k es)
 unfolding joinAll
-join-all-sound n [] k es w h = edges h
-join-all-sound n (e ∷ q) k es (cons f w) h = joined-onto (join-one-sound (e .edge) k es (ends-inside e n) f h) (λ es′ h′. join-all-sound n q (k + 1) es′ w h′)
+join-all-sound n [] k es s h w = edges h w
+join-all-sound n (e ∷ q) k es (cons f s) h w = joined-onto (join-one-sound (e .edge) k es (ends-inside e n) f h w) (λ es′ h′ w′. join-all-sound n q (k + 1) es′ s h′ w′)
 
 -- ---- an accepted text
 
 data SoundReading (wish : Bool) : Reading → Type 0 where
-  accepted : {ns : List Node} {es : List Stored} → All (Sound wish) ns → All (SoundEdge (length ns)) es → SoundReading wish (Accepted ns es)
+  accepted : {ns : List Node} {es : List Stored} → All (Sound wish) ns → All SoundEdge es → Tidy (length ns) es → SoundReading wish (Accepted ns es)
   refused : {r : CdError} → SoundReading wish (reading.Refused r)
 
 with-edges-sound : {wish : Bool} {ns : List Node} {j : Joined} → All (Sound wish) ns → SoundJoined (length ns) j → SoundReading wish (withEdges ns j)
 unfolding withEdges
-with-edges-sound h (edges k) = accepted h k
+with-edges-sound h (edges k w) = accepted h k w
 with-edges-sound h refused = refused
 
 joined-sound : {wish : Bool} {o : Outcome} → Fine wish o → SoundReading wish (joined o)
 unfolding joined
-joined-sound (on {st} h) = with-edges-sound (h .nodes) (join-all-sound (length (st .nodes)) (st .queue) 0 [] (h .queue) nil)
+joined-sound (on {st} h) = with-edges-sound (h .nodes) (join-all-sound (length (st .nodes)) (st .queue) 0 [] (h .queue) nil tidy.none)
 joined-sound refused = refused
 
 typed-sound : (wish : Bool) (s : List ℕ) → SoundReading wish (typed wish s)
 unfolding typed
 typed-sound wish s = picked (SoundReading wish) (ltb 255 (length s)) refused (picked (SoundReading wish) (ltb (high s 0) (length s)) refused (joined-sound (text-fine wish s 0)))
 
-both-sound : {wish : Bool} {ns : List Node} {es : List Stored} → SoundReading wish (Accepted ns es) → All (Sound wish) ns × All (SoundEdge (length ns)) es
-both-sound (accepted h k) = (h, k)
+parts : {wish : Bool} {ns : List Node} {es : List Stored} → SoundReading wish (Accepted ns es) → All (Sound wish) ns × All SoundEdge es × Tidy (length ns) es
+parts (accepted h k w) = (h, k, w)
 
--- every node of an accepted text is sound, and so is every stored edge as typed
-pub sound-nodes : (wish : Bool) (s : List ℕ) (ns : List Node) (es : List Stored) → typed wish s ≡ Accepted ns es → All (Sound wish) ns
-sound-nodes wish s ns es e = both-sound (rw e at (typed-sound wish s)) .0
+-- every node of an accepted text is sound, and so is every stored edge as typed; and these are tidy
+module _ (wish : Bool) (s : List ℕ) (ns : List Node) (es : List Stored) (e : typed wish s ≡ Accepted ns es) where
+  pub sound-nodes : All (Sound wish) ns
+  sound-nodes = parts (rw e at (typed-sound wish s)) .0
 
-pub sound-edges : (wish : Bool) (s : List ℕ) (ns : List Node) (es : List Stored) → typed wish s ≡ Accepted ns es → All (SoundEdge (length ns)) es
-sound-edges wish s ns es e = both-sound (rw e at (typed-sound wish s)) .1
+  pub sound-edges : All SoundEdge es
+  sound-edges = parts (rw e at (typed-sound wish s)) .1
+
+  pub tidy-edges : Tidy (length ns) es
+  tidy-edges = parts (rw e at (typed-sound wish s)) .2

@@ -1,13 +1,14 @@
 -- The promise of `names` leaves nothing free: of a text it allows one answer. Assumes nothing.
 use mathlib.Core.Bool.{Bool}
-use mathlib.Core.List.{List}
+use mathlib.Core.List.{List, []}
 use mathlib.Core.Path.{_≡_, sym, ap, _∙_}
 use Prim.Native.Nat.{ℕ, _≤_}
 use native.Mathlib.Omega.{arith}
 use lib.ListN.{length}
 use Rattle.cd.specs.Diagrams.{Stored, limit}
 use Rattle.cd.specs.declared.Node.{Node}
-use Rattle.group_names.specs.Named.{refusal, Names, named, nameless}
+use Rattle.cd.proofs.Arrays.{length-padded}
+use Rattle.group_names.specs.Named.{blank, refusal, Names, named, nameless}
 use Rattle.group_names.specs.declared.Groups.{Groups}
 use Rattle.group_names.proofs.Listed.{lists-short, names-once}
 use Rattle.lexicon.proofs.Fileable.{accepted-diagram}
@@ -27,6 +28,12 @@ pub names-few : {wish : Bool} {text : List ℕ} {r : Groups} → NamesText wish 
 names-few (refused h e) = omega (arith, ap (λ (g : Groups). g .count) e)
 names-few {wish} {text} (told {ns} {es} h (named w e)) = omega (arith, ap (λ (g : Groups). g .count) e, lists-short w, accepted-few wish text ns es h)
 names-few (told h (nameless l w low not e)) = omega (arith, ap (λ (g : Groups). g .count) e)
+
+-- the array has all its places
+pub names-full : {wish : Bool} {text : List ℕ} {r : Groups} → NamesText wish text r → length (r .at) ≡ limit
+names-full (refused h e) = ap (λ (g : Groups). length (g .at)) e ∙ length-padded blank limit []
+names-full (told h (named {gs} w e)) = ap (λ (g : Groups). length (g .at)) e ∙ length-padded blank limit gs
+names-full (told h (nameless l w low not e)) = ap (λ (g : Groups). length (g .at)) e ∙ length-padded blank limit []
 
 -- THE PROMISE OF `names` ALLOWS ONE ANSWER
 pub one-answer : {wish : Bool} {text : List ℕ} {r s : Groups} → NamesText wish text r → NamesText wish text s → r ≡ s

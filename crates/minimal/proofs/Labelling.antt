@@ -1,10 +1,12 @@
 -- The labelling goes on from pair to pair. Where an edge joins the pair, a path leads from the greater label to the lesser, so the lesser in its place is still
--- a node of each component that had either. Once every row is met a step keeps the label, so a path does. No limit of nodes stands here. Assumes nothing.
+-- a node of each component that had either. Once every row is met a step keeps the label, so a path does. So there is a labelling, whatever code makes one. No limit
+-- of nodes stands here. Assumes nothing.
 use Prim.Native.Nat.{ℕ, zero, suc, _+_, _≤_, _<_}
 use mathlib.Core.List.{List, [], _∷_}
-use mathlib.Core.Path.{_≡_, refl, sym, ap, _∙_}
+use mathlib.Core.Path.{_≡_, refl, sym, ap, _∙_, subst}
 use native.Mathlib.Decide.{decLt, ℕ-discrete}
-use native.Mathlib.Nat.{not-suc-le-zero, le-of-suc-le-suc}
+use native.Mathlib.Nat.{le-refl, not-suc-le-zero, le-of-suc-le-suc}
+use native.Mathlib.Numerals.{add-one}
 use native.Mathlib.Omega.{arith}
 use borrow.Author.Count.{below-more}
 use borrow.Author.Tests.{eq-eqb, ne-eqb}
@@ -116,3 +118,33 @@ module _ (E : ℕ → ℕ → Type 0) (n : ℕ) (f : ℕ → ℕ) where
           member = at .member;
           lowest = λ a b ha hb p. omega (arith, path-same p ha, at .low b hb);
         }
+
+-- ---- a labelling of any relation that goes both ways and can be decided
+
+module _ (E : ℕ → ℕ → Type 0) (n : ℕ) (turn : (i j : ℕ) → E i j → E j i) (decided : (i j : ℕ) → i < n → j < n → Dec (E i j)) where
+  abbrev Labels : ℕ → ℕ → Type 0
+  Labels j i = (f : ℕ → ℕ) × Partway E n j i f
+
+  pair-labels : (i j : ℕ) → i < j → j < n → Labels j i → Labels j (i + 1)
+  pair-labels i j h k (f, at) = go (decided i j (omega arith) k)
+    where
+      go : Dec (E i j) → Labels j (i + 1)
+      go (no none) = (f, met-no-edge E n j i f at h k none)
+      go (yes e) =
+          elim (decLt (f i) (f j)) [
+            | yes l ↦ ((λ t. instead (f j) (f i) (f t)), met-lower E n j i f at h k turn e _ l (λ t _. refl))
+            | no l ↦ ((λ t. instead (f i) (f j) (f t)), met-upper E n j i f at h k turn e _ (omega arith) (λ t _. refl))
+          ]
+
+  row-labels : (j m : ℕ) → j < n → m ≤ j → Labels j 0 → Labels j m
+  row-labels j zero h k w = w
+  row-labels j (suc m) h k w = subst (Labels j) (add-one m) (pair-labels m j k h (row-labels j m h (omega arith) w))
+
+  all-labels : (m : ℕ) → m ≤ n → Labels m 0
+  all-labels zero h = ((λ i. i), none-met E n (λ i. i) (λ i _. refl))
+  all-labels (suc m) h =
+      let (f, at) = row-labels m m h (le-refl m) (all-labels m (omega arith)) in
+      (f, subst (λ k. Partway E n k 0 f) (add-one m) (row-met E n f m at))
+
+  pub labelling : ((i j : ℕ) → E i j → j < n) → (f : ℕ → ℕ) × Labelled E n f
+  labelling below = let (f, at) = all-labels n (le-refl n) in (f, all-met E n f turn below at)

@@ -49,7 +49,7 @@ ends-kept : (e : EdgeRef) (n : ℕ) → endsOf (keptRef e) n ≡ endsOf e n
 unfolding endsOf
 ends-kept e n = rw (reduced-two (e .edge))
 
-joined-kept : (es : List Stored) (a b : ℕ) → isJoined (map keptEdge es) a b ≡ isJoined es a b
+pub joined-kept : (es : List Stored) (a b : ℕ) → isJoined (map keptEdge es) a b ≡ isJoined es a b
 unfolding isJoined joins
 joined-kept [] a b = refl
 joined-kept (s ∷ es) a b = ap (λ t. joins a b s || t) (joined-kept es a b)

@@ -1,0 +1,2 @@
+-- Ticket K11: equal records, equal articles.
+pub mod Articles
