@@ -1,7 +1,7 @@
 -- What a call tells and shows, case by case: refused, too short a slice, shown. Assumes nothing.
 use mathlib.Core.List.{List, _∷_}
 use mathlib.Core.Path.{_≡_, refl, sym, ap, subst, _∙_}
-use Prim.Native.Nat.{ℕ, _*_, _≤_, _<_}
+use Prim.Native.Nat.{ℕ, _+_, _*_, _≤_, _<_}
 use native.Mathlib.Omega.{arith}
 use borrow.Author.Tests.{lt-ltb, le-ltb}
 use lib.ListN.{length, getD, drop, length-append, List·getD-append}
@@ -43,11 +43,11 @@ module _ {A : Type 0} (a : Answer) (fs : List ℕ) (xs out out′ : List A) (ans
   unfolding outcome fitted lent told
   lends-shown h l s t = lends (Shows fs xs) (rw (h, le-ltb (length out) (length xs) l)) s t
 
--- what a call with room enough has told and shown
-module _ {A : Type 0} {a : Answer} {fs : List ℕ} {xs out out′ : List A} {answer′ : List ℕ} {r : ℕ} (l : Lends (outcome a fs xs) out out′ answer′ r) (accepted : a ≡ said.Accepted) (room : length xs ≤ length out) where
-  fits : fitted (length out) (outcome a fs xs) ≡ Shows fs xs
-  unfolding outcome fitted
-  fits = rw (accepted, le-ltb (length out) (length xs) room)
+-- what a call with room enough has told, returned and shown
+module _ {A : Type 0} {o : Outcome A} {fs : List ℕ} {xs out out′ : List A} {answer′ : List ℕ} {r : ℕ} (l : Lends o out out′ answer′ r) (is : o ≡ Shows fs xs) (room : length xs ≤ length out) where
+  fits : fitted (length out) o ≡ Shows fs xs
+  unfolding fitted
+  fits = rw (is, le-ltb (length out) (length xs) room)
 
   pub shown-told : answer′ ≡ padded 0 4 (0 ∷ fs)
   unfolding told
@@ -60,7 +60,7 @@ module _ {A : Type 0} {a : Answer} {fs : List ℕ} {xs out out′ : List A} {ans
   pub shown-at : (k : ℕ) (d : A) → k < length xs → getD out′ k d ≡ getD xs k d
   unfolding lent
   shown-at k d h =
-      ap (λ z. getD z k d) (l .slice ∙ ap (λ o. lent o out) fits ∙ sets-eq xs out 0 (omega arith))
+      ap (λ z. getD z k d) (l .slice ∙ ap (λ p. lent p out) fits ∙ sets-eq xs out 0 (omega arith))
       ∙ List·getD-append xs (drop (0 + length xs) out) d k h
 
 -- of the same thing, told in two ways

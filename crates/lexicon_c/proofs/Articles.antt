@@ -2,7 +2,7 @@
 -- same texts and wishes tell and show the same mark, the same number of edges between different nodes and the same names, or 21 for both. It rests on the promises
 -- `FilesForC`, `ReadsForC` and `NamesForC` alone, and on the theorem of the calls in Rattle. Assumes nothing.
 use mathlib.Core.Bool.{Bool}
-use mathlib.Core.List.{List, [], _∷_, _++_}
+use mathlib.Core.List.{List, [], _∷_, map}
 use mathlib.Core.Path.{_≡_, refl, sym, ap, _∙_, subst}
 use Prim.Native.Nat.{ℕ, zero, suc, _+_, _*_, _≤_, _<_}
 use native.Mathlib.Omega.{arith}
@@ -11,13 +11,14 @@ use lib.ListN.{length, getD, take}
 use lib.Seq.{getD-append-add, getD-take, length-take-le}
 use Rattle.float.specs.Pick.{pick}
 use Rattle.cd.specs.Arrays.{padded}
-use Rattle.cd.specs.Diagrams.{Stored, none, limit, pairLimit, placeOf, cdOf}
+use Rattle.cd.specs.Diagrams.{Stored, none, between, limit, pairLimit, place, placeOf, cdOf}
 use Rattle.cd.specs.Refusals.{numberOf}
 use Rattle.cd.specs.declared.Cd.{Cd}
 use Rattle.cd.specs.declared.CdError.the-variants.{NoName}
 use Rattle.cd.specs.declared.Node.{Node}
-use Rattle.cd.specs.declared.Pair.{Pair}
+use Rattle.cd.specs.declared.Node.the-variants.{Unringed}
 use Rattle.cd.proofs.Arrays.{length-padded, getD-padded, length-triangle, place-below}
+use Rattle.cd.proofs.Stored.{count-held, nodes-held, pairs-held}
 use Rattle.filing.specs.Counts.{pairCount}
 use Rattle.filing.specs.Numberings.{Numbering}
 use Rattle.filing.specs.Records.{recordLength}
@@ -27,7 +28,7 @@ use Rattle.group_names.specs.Names.{written}
 use Rattle.group_names.specs.declared.Group.{Group}
 use Rattle.group_names.specs.declared.Groups.{Groups}
 use Rattle.group_names.specs.declared.Name.{Name}
-use Rattle.lent.specs.Outcomes.{Lends, told, fitted}
+use Rattle.lent.specs.Outcomes.{Shows, told, fitted}
 use Rattle.lent.specs.Shown.{diagramLength, namesLength, outcome, flat, nodeNumbers, pairNumbers, numbersOf, groupNumbers, ofReading, ofGroups}
 use Rattle.lent.proofs.Copying.{flat-at}
 use Rattle.lent.proofs.Showing.{nodes-long, numbers-long, shown-told, shown-returned, shown-at}
@@ -59,23 +60,28 @@ module _ {wish : Bool} {text out : List ℕ} {ns : List Node} {es : List Stored}
   says : reads .reading .read .answer ≡ said.Accepted
   says = ap (λ (r : Read). r .answer) shows
 
+  held : cd ≡ cdOf ns es
+  held = ap (λ (r : Read). r .cd) shows
+
   nodes-full : length (cd .nodes) ≡ limit
-  unfolding cdOf
-  nodes-full = ap (λ (r : Read). length (r .cd .nodes)) shows ∙ length-padded _ limit _
+  nodes-full = ap length (nodes-held cd ns es held) ∙ length-padded (place Unringed) limit (map place ns)
 
   pairs-full : length (cd .pairs) ≡ pairLimit
-  unfolding cdOf
-  pairs-full = ap (λ (r : Read). length (r .cd .pairs)) shows ∙ length-triangle _ limit
+  pairs-full = ap length (pairs-held cd ns es held) ∙ length-triangle (between 1 es) limit
 
   long : length (numbersOf cd) ≡ diagramLength
   long = numbers-long cd nodes-full pairs-full
 
+  is : ofReading (reads .reading) ≡ Shows (cd .count ∷ cd .edges ∷ pick (reads .reading .minimal) 1 0 ∷ []) (numbersOf cd)
+  unfolding outcome
+  is = ap (λ z. outcome z (cd .count ∷ cd .edges ∷ pick (reads .reading .minimal) 1 0 ∷ []) (numbersOf cd)) says
+
   read-returned : c .returned ≡ 0
-  read-returned = shown-returned (reads .lends) says (omega (arith, long))
+  read-returned = shown-returned (reads .lends) is (omega (arith, long))
 
   read-told : c .answer ≡ 0 ∷ cd .count ∷ cd .edges ∷ pick (reads .reading .minimal) 1 0 ∷ []
   unfolding padded
-  read-told = shown-told (reads .lends) says (omega (arith, long))
+  read-told = shown-told (reads .lends) is (omega (arith, long))
 
   -- the rank of a pair
   rank-shown : (i j : ℕ) → i < j → j < limit → getD (c .out) (2 * limit + 3 * placeOf i j) 0 ≡ getD (cd .pairs) (placeOf i j) none .rank
@@ -83,15 +89,14 @@ module _ {wish : Bool} {text out : List ℕ} {ns : List Node} {es : List Stored}
   rank-shown i j l h =
       let below : placeOf i j < length (cd .pairs) = omega (arith, place-below limit i j l h, pairs-full) in
       let at : 2 * limit + 3 * placeOf i j ≡ length (flat nodeNumbers (cd .nodes)) + (3 * placeOf i j + 0) = omega (arith, nodes-long (cd .nodes), nodes-full) in
-      shown-at (reads .lends) says (omega (arith, long)) (2 * limit + 3 * placeOf i j) 0 (omega (arith, long, pairs-full))
+      shown-at (reads .lends) is (omega (arith, long)) (2 * limit + 3 * placeOf i j) 0 (omega (arith, long, pairs-full))
       ∙ ap (λ k. getD (numbersOf cd) k 0) at
       ∙ getD-append-add (flat nodeNumbers (cd .nodes)) (flat pairNumbers (cd .pairs)) (3 * placeOf i j + 0) 0
       ∙ flat-at pairNumbers 3 (λ p. refl) (cd .pairs) (placeOf i j) 0 none 0 below (omega arith)
 
   edges-shown : edgesShown c ≡ edgeCount cd
-  unfolding cdOf
   edges-shown =
-      let few : cd .count ≤ limit = omega (arith, ap (λ (r : Read). r .cd .count) shows, accepted-few wish text ns es accepted) in
+      let few : cd .count ≤ limit = omega (arith, count-held cd ns es held, accepted-few wish text ns es accepted) in
       ap (λ z. pairCount (λ i j. ltb 0 (getD (c .out) (2 * limit + 3 * placeOf i j) 0)) (getD z 1 0)) read-told
       ∙ pairs-local _ _ (cd .count) (λ i j l h. ap (ltb 0) (rank-shown i j l (omega arith)))
 
@@ -109,15 +114,19 @@ module _ {wish : Bool} {text out : List ℕ} (c : Called) (names : NamesForC wis
   groups = names .groups
 
   module _ (accepted : groups .answer ≡ said.Accepted) where
+    shown : ofGroups groups ≡ Shows (groups .count ∷ []) (padded 0 namesLength (flat groupNumbers (take (groups .count) (groups .at))))
+    unfolding outcome
+    shown = ap (λ z. outcome z (groups .count ∷ []) (padded 0 namesLength (flat groupNumbers (take (groups .count) (groups .at))))) accepted
+
     fits : length (padded 0 namesLength (flat groupNumbers (take (groups .count) (groups .at)))) ≤ length out
     fits = omega (arith, length-padded 0 namesLength (flat groupNumbers (take (groups .count) (groups .at))))
 
     names-returned : c .returned ≡ 0
-    names-returned = shown-returned (names .lends) accepted fits
+    names-returned = shown-returned (names .lends) shown fits
 
     names-told : getD (c .answer) 1 0 ≡ groups .count
     unfolding padded
-    names-told = ap (λ z. getD z 1 0) (shown-told (names .lends) accepted fits)
+    names-told = ap (λ z. getD z 1 0) (shown-told (names .lends) shown fits)
 
     number-shown : (i k : ℕ) → i < groups .count → k < 4 → getD (c .out) (4 * i + k) 0 ≡ getD (groupNumbers (getD (groups .at) i blank)) k 0
     unfolding groupNumbers
@@ -125,13 +134,13 @@ module _ {wish : Bool} {text out : List ℕ} (c : Called) (names : NamesForC wis
         let few = names-few (names .names) in
         let xs = take (groups .count) (groups .at) in
         let whole : length xs ≡ groups .count = length-take-le (groups .count) (groups .at) (omega (arith, names-full (names .names))) in
-        shown-at (names .lends) accepted fits (4 * i + k) 0 (omega (arith, length-padded 0 namesLength (flat groupNumbers xs)))
+        shown-at (names .lends) shown fits (4 * i + k) 0 (omega (arith, length-padded 0 namesLength (flat groupNumbers xs)))
         ∙ getD-padded 0 0 namesLength (flat groupNumbers xs) (4 * i + k) (omega arith)
         ∙ flat-at groupNumbers 4 (λ g. refl) xs i k blank 0 (omega arith) l
         ∙ ap (λ g. getD (groupNumbers g) k 0) (getD-take (groups .count) (groups .at) i blank h)
 
     name-shown : (i : ℕ) → i < groups .count → nameShown c i ≡ numbers (nameAt groups i)
-    unfolding groupNumbers
+    unfolding groupNumbers numbers
     name-shown i h = λ t. number-shown i 1 h (omega arith) t ∷ number-shown i 2 h (omega arith) t ∷ number-shown i 3 h (omega arith) t ∷ []
 
   names-refused : {v : ℕ} → groups ≡ refusal (NoName v) → c .returned ≡ 21
