@@ -37,7 +37,9 @@ PUBLIC = ("lexicon", "geometry", "lexicon_names", "lexicon_c", "group_names/proo
           "lexicon/proofs/Demand3.antt: demand-3", "lexicon/proofs/Demand3.antt: nodes-correspond",
           "lexicon/proofs/OneAnswer.antt: one-answer", "lexicon/proofs/OneAnswer.antt: one-filing", "lexicon/proofs/Wishes.antt: read-alike",
           "lexicon/proofs/Wishes.antt: accepted-unwished", "lexicon_c/proofs/Demand3.antt: demand-3",
-          "lexicon_c/proofs/Demand3.antt: nodes-correspond", "lexicon_c/proofs/Demand3.antt: one-answer", "lexicon_c/proofs/Demand3.antt: one-filing")
+          "lexicon_c/proofs/Demand3.antt: nodes-correspond", "lexicon_c/proofs/Demand3.antt: one-answer", "lexicon_c/proofs/Demand3.antt: one-filing",
+          "lexicon_articles/proofs/EqualRecords.antt: equal-articles", "lexicon_articles/proofs/EqualRecords.antt: same-edges",
+          "lexicon_c/proofs/Articles.antt: equal-articles")
 PROGRAMS = ("cdlist", "cdlist/proofs/Whole.antt: blocks-list")
 
 TOP = Path(__file__).resolve().parent.parent

@@ -28,6 +28,17 @@ fn article(text: &str) -> Article {
 
 /// Texts of one figure each.
 const FIGURES: [&[&str]; 9] = [
+    &["x3o4o", "o4o3x", "o3x *a4o", "x3o4o5*c", "x3*a3o4o", "x6/2o8/2o3*c", "xoo *b4*c *a3*b"],
+    &["x3o3o x7o", "x7o x3o3o", "xx7o *a3o3o", "x7*a7o x3o3o4/3*e"],
+    &["x3o x5o x", "x x5o x3o", "xxx5o *b3o", "xxx5o *b3o7/2*e"],
+    &["x5/2o x3o", "x3o x5/2o", "xx3o *a5/2o"],
+    &["s3s4s", "s4s3s", "s4s3s9*c"],
+    &["o3o s", "s o3o", "o3o3*b s5*c"],
+    &["x3x3x3*a", "x3x3x *a3*c", "x3x3x3*a3*a"],
+    &["oooo", "ooo2o", "oo*a9*a oo"],
+    &["*a", "*-c2*b", "*z *a"],
+];
+9] = [
     &["x3o4o", "o4o3x", "o3x *b4o", "x3o4o5*c", "x3*a3o4o", "x6/2o8/2o 3*c", "xoo *b4*c *a3*b"],
     &["x3o3o x7o", "x7o x3o3o", "xx7o *a3oo *d3*e", "x7*a7o x3o3o4/3*e"],
     &["x3o x5o x", "x x5o x3o", "xxx3*e5*c oo *b3*d *a5*e *c7/2*c"],
