@@ -101,9 +101,19 @@ impl Diagram {
     }
 
     /// The edge between two nodes, in either order, and its rank.
-    pub fn put(&mut self, rank: usize, (a, b): (usize, usize), fraction: Fraction) {
-        let (i, j) = (a.min(b), a.max(b));
-        let at = 2 * LIMIT + 3 * (j * (j + 1) / 2 + i);
+    pub fn put(&mut self, rank: usize, ends: (usize, usize), fraction: Fraction) {
+        let at = place(ends);
         self.0[at..at + 3].copy_from_slice(&[rank as u64, fraction.num.into(), fraction.den.into()]);
     }
+
+    /// The rank of the edge between two nodes, in either order; 0 if nothing joins them.
+    pub fn rank(&self, ends: (usize, usize)) -> u64 {
+        self.0[place(ends)]
+    }
+}
+
+/// Where the numbers of a pair begin.
+fn place((a, b): (usize, usize)) -> usize {
+    let (i, j) = (a.min(b), a.max(b));
+    2 * LIMIT + 3 * (j * (j + 1) / 2 + i)
 }

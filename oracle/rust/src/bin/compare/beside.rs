@@ -13,7 +13,7 @@ use crate::{
     dice::mix,
     expected::{self, Reading},
     figures::{Figure, ReadBack, RECORD},
-    names,
+    names::{self, Joined},
     port::{bits, short, Asked, Asking, Call, Port, Want, SPARE, SQUARE, WISHES},
     records,
     run::{self, Tally, Work},
@@ -228,7 +228,7 @@ impl Beside<'_> {
         let walls = walls::walls(&cox);
         count_walls(mirrors.is_ok(), walls.is_ok(), tally);
         self.walls(asking, cd, &walls, window, tally)?;
-        let (answer, out) = names::due(&names::components(cd));
+        let (answer, out) = names::due(&names::components(&Joined::from(cd)));
         tally.count(if answer[0] == 0 { NAMED } else { NAMELESS });
         self.check(Call::Names, asking, Want { answer, out: &out }, turned(window, 10))?;
         self.record(asking, cd, window, tally)

@@ -79,7 +79,7 @@ const USUAL: [(u32, u32); 14] =
     [(3, 1), (3, 1), (3, 1), (4, 1), (4, 1), (5, 1), (6, 1), (5, 2), (5, 3), (5, 4), (7, 2), (7, 3), (8, 3), (3, 2)];
 
 /// An edge's fraction, no two, in lowest terms.
-fn any_fraction(dice: &mut Dice) -> Fraction {
+pub fn any_fraction(dice: &mut Dice) -> Fraction {
     let (num, den) = match dice.below(20) {
         0 => (u32::MAX - dice.below(4) as u32, 1 + dice.below(4) as u32),
         1 => {

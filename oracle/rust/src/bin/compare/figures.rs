@@ -99,6 +99,11 @@ impl Figure {
         (0..self.count).flat_map(|j| (0..j).map(move |i| (i, j)))
     }
 
+    /// Those of them that an edge joins.
+    pub fn joined_pairs(&self) -> impl Iterator<Item = (usize, usize)> + '_ {
+        self.all_pairs().filter(|&(i, j)| self.joined(i, j))
+    }
+
     /// The figure whose node i is this one's numbering[i].
     pub fn renumbered(&self, numbering: &Numbering) -> Self {
         let mut other = *self;
@@ -233,7 +238,7 @@ impl Figure {
     pub fn diagram(&self) -> (Diagram, usize) {
         let mut diagram = Diagram::new(self.nodes().iter().copied());
         let mut edges = 0;
-        for (i, j) in self.all_pairs().filter(|&(i, j)| self.joined(i, j)) {
+        for (i, j) in self.joined_pairs() {
             edges += 1;
             diagram.put(edges, (i, j), self.pairs[i][j]);
         }

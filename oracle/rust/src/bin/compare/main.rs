@@ -2,7 +2,7 @@
 //! measures its radii.
 //!
 //! * `compare texts SEED COUNT`: fixed texts, COUNT by chance, and all families, beside the Rust (beside.rs);
-//! * `compare pairs SEED COUNT`: COUNT figures and their records (pairs.rs);
+//! * `compare pairs SEED COUNT`: COUNT figures, their records and articles (pairs.rs);
 //! * `compare shelves SEED COUNT`: COUNT shelf files and records to be found in them and added (shelves.rs);
 //! * `compare names SEED COUNT`: COUNT diagrams of families and of what is next to them, and their names (naming.rs);
 //! * `compare radii SEED COUNT`: COUNT figures, and how far the circumradii of their spellings lie apart (radii.rs).
@@ -10,6 +10,7 @@
 //! `--threads N` takes N threads in place of two; what is compared is the same. Exit status: 0 nothing differs, 1 something
 //! does, 2 it was called otherwise.
 
+mod articles;
 mod beside;
 mod chance;
 mod dice;

@@ -7,7 +7,7 @@ use miratope::{
     diagrams::{Fraction, LIMIT},
 };
 
-use crate::port::NAMES;
+use crate::{figures::Figure, port::NAMES};
 
 /// A name's letter, `I` for I2, and the number that follows it.
 #[derive(Clone, Copy, PartialEq, Eq, PartialOrd, Ord, Debug)]
@@ -61,34 +61,51 @@ pub fn due(components: &[Component]) -> ([usize; 4], Vec<u64>) {
 }
 
 /// The components, over stored edges, by rising lowest node.
-pub fn components(cd: &Cd) -> Vec<Component> {
-    let joined = Joined::of(cd);
-    let mut seen = [false; LIMIT];
-    let mut components = Vec::new();
-    for lowest in 0..cd.node_count() {
-        if !seen[lowest] {
-            components.push((lowest, joined.name(&joined.reached(lowest, &mut seen))));
-        }
-    }
-    components
+pub fn components(joined: &Joined) -> Vec<Component> {
+    joined.components().iter().map(|nodes| (nodes[0], joined.name(nodes))).collect()
 }
 
-/// The fractions between nodes as they were typed, no loops among them.
-struct Joined {
+/// The fractions between nodes, no loops among them.
+pub struct Joined {
+    count: usize,
     near: [Vec<(usize, Fraction)>; LIMIT],
 }
 
+impl From<&Cd> for Joined {
+    /// The fractions as they were typed.
+    fn from(cd: &Cd) -> Self {
+        let typed = cd.raw_edges().iter();
+        let edges = typed.map(|edge| (edge.source().index(), edge.target().index(), Fraction::of(edge.weight)));
+        Self::new(cd.node_count(), edges)
+    }
+}
+
+impl From<&Figure> for Joined {
+    fn from(figure: &Figure) -> Self {
+        Self::new(figure.count, figure.joined_pairs().map(|(i, j)| (i, j, figure.pair(i, j))))
+    }
+}
+
 impl Joined {
-    fn of(cd: &Cd) -> Self {
+    fn new(count: usize, edges: impl Iterator<Item = (usize, usize, Fraction)>) -> Self {
         let mut near: [Vec<_>; LIMIT] = Default::default();
-        for edge in cd.raw_edges() {
-            let (a, b) = (edge.source().index(), edge.target().index());
-            if a != b {
-                near[a].push((b, Fraction::of(edge.weight)));
-                near[b].push((a, Fraction::of(edge.weight)));
+        for (a, b, fraction) in edges.filter(|(a, b, _)| a != b) {
+            near[a].push((b, fraction));
+            near[b].push((a, fraction));
+        }
+        Self { count, near }
+    }
+
+    /// The nodes of each component, over stored edges, by rising lowest node, which comes first.
+    pub fn components(&self) -> Vec<Vec<usize>> {
+        let mut seen = [false; LIMIT];
+        let mut components = Vec::new();
+        for lowest in 0..self.count {
+            if !seen[lowest] {
+                components.push(self.reached(lowest, &mut seen));
             }
         }
-        Self { near }
+        components
     }
 
     /// The nodes of a component, none of which is seen yet.
@@ -107,7 +124,8 @@ impl Joined {
         nodes
     }
 
-    fn name(&self, nodes: &[usize]) -> Result<Name, Nameless> {
+    /// The name of a component.
+    pub fn name(&self, nodes: &[usize]) -> Result<Name, Nameless> {
         let ends: usize = nodes.iter().map(|&node| self.near[node].len()).sum();
         if ends / 2 != nodes.len() - 1 {
             return Err(Nameless::Cycle);

@@ -14,10 +14,10 @@ use crate::{
     dice::Dice,
     expected::{self, Reading},
     figures::{Figure, UNJOINED},
-    names::{self, Component, Name},
+    names::{self, Component, Joined, Name},
     port::{Asked, Call, Port, Want, WISHES},
     run::{self, Tally, Work},
-    spelling,
+    spelling::{self, Looped, Spelling},
 };
 
 /// The least and the greatest number that follows a letter; of I2 there are more.
@@ -82,13 +82,13 @@ impl Work for Naming {
             step(dice, &mut figure);
         }
         let seldom = dice.pick(&[4, 10, 40, 1000]);
-        let Some((text, _)) = spelling::short_spelling(dice, &figure, seldom) else {
+        let Some(Spelling { text, .. }) = spelling::short_spelling(dice, &figure, seldom, Looped::Seldom) else {
             tally.count(TOO_LONG);
             return Ok(());
         };
         let told = |what: String| format!("\"{}\": {what}", text.escape_ascii());
         let Reading::Accepted(cd) = expected::reading(&text) else { return Err(told("the Rust refuses it".into())) };
-        let components = names::components(&cd);
+        let components = names::components(&Joined::from(&cd));
         tally.count(if steps == 0 { MADE } else { STEPS + steps - 1 });
         count(&cd, &components, tally);
         if steps == 0 {
@@ -209,7 +209,7 @@ fn dihedral(dice: &mut Dice) -> u32 {
 fn step(dice: &mut Dice, figure: &mut Figure) {
     let (a, b) = (dice.below(figure.count), dice.below(figure.count));
     let number = of(dice.pick(&[3, 3, 4, 4, 5, 6, 7]));
-    let edges: Vec<_> = figure.all_pairs().filter(|&(i, j)| figure.joined(i, j)).collect();
+    let edges: Vec<_> = figure.joined_pairs().collect();
     match dice.below(6) {
         0 if a != b => figure.join(a, b, number),
         1 if !edges.is_empty() => {

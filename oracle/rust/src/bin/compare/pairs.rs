@@ -1,21 +1,23 @@
 //! `compare pairs`: records at scale. Two spellings of a figure, one of them read with the wish for infinite lengths and the
 //! other without it where no length is infinite, must get one record, and numberings that tell which node is which; a figure
-//! changed in one place another, unless it is the same renumbered; a record must be read back to its figure. Ticket K5: the
-//! figure laid out in another numbering must be refused with 22; with a byte changed, so that it is no layout, with 14; and a
-//! record with a byte changed with either, unless it is that of another figure.
+//! changed in one place another, unless it is the same renumbered; a record must be read back to its figure. Ticket K11: the
+//! two spellings, often with other loops, must agree in what the editing page computes of them. Ticket K5: the figure laid
+//! out in another numbering must be refused with 22; with a byte changed, so that it is no layout, with 14; and a record with a
+//! byte changed with either, unless it is that of another figure.
 
 use std::process::ExitCode;
 
 use miratope::diagrams::LIMIT;
 
 use crate::{
+    articles::{self, Article},
     chance,
     dice::Dice,
     figures::{Figure, Numbering, ReadBack, PLAIN, RECORD},
-    port::{Asking, Call, Port, Want, WISHES},
+    port::{Asked, Asking, Call, Port, Want, WISHES},
     records,
     run::{self, Tally, Work},
-    spelling,
+    spelling::{self, Looped, Loops, Spelling},
 };
 
 // Places of the tally.
@@ -32,6 +34,9 @@ const WRONG_LENGTH: usize = 18;
 const TOO_LONG: usize = 19;
 const WITH_AND_WITHOUT: usize = 20;
 const INFINITE: usize = 21;
+const OTHER_LOOPS: usize = 22;
+const ONE_LOOPED: usize = 23;
+const ARTICLES: usize = 24;
 
 fn labels() -> Vec<String> {
     let mut labels: Vec<String> =
@@ -48,6 +53,9 @@ fn labels() -> Vec<String> {
     labels.push("changed in one place, too long to write".into());
     labels.push("figures in two spellings, one read with the wish and one without".into());
     labels.push("figures with an infinite length in two spellings, both read with the wish".into());
+    labels.push("pairs of spellings with loops that differ".into());
+    labels.push("  of them with loops in one spelling alone".into());
+    labels.extend(articles::COUNTED.map(String::from));
     labels
 }
 
@@ -66,19 +74,15 @@ impl Work for Pairs {
         let dice = &mut Dice::new(self.seed, index);
         let (figure, plain) = loop {
             let figure = any_figure(dice);
-            if let Some(plain) = spelling::short_spelling(dice, &figure, 1000) {
+            if let Some(plain) = spelled(dice, &figure, 1000) {
                 break (figure, plain);
             }
         };
         tally.count(SPELLED + figure.count);
-        let infinite = figure.is_infinite();
-        let wished = infinite || dice.one_in(2);
+        let wished = figure.is_infinite() || dice.one_in(2);
         let filed = self.filed(dice, &figure, plain, wished)?;
         let bytes = filed.bytes;
-        if let Some(odd) = spelling::short_spelling(dice, &figure, 5) {
-            tally.count(if infinite { INFINITE } else { WITH_AND_WITHOUT });
-            filed.same_as(&self.filed(dice, &figure, odd, infinite || !wished)?)?;
-        }
+        self.spelled_again(dice, &figure, &filed, !wished, tally)?;
         if figure.count <= 5 && dice.one_in(16) && filed.figure.smallest_of_all() != (bytes, filed.numbering) {
             return Err(format!(
                 "of all numberings another comes before {:?}, or has a smaller layout than {}",
@@ -87,7 +91,7 @@ impl Work for Pairs {
             ));
         }
         if figure.count > 0 {
-            self.changed(dice, &figure, &bytes, tally)?;
+            self.changed(dice, &figure, &filed, tally)?;
         }
         let own = filed.figure.renumbered(&filed.numbering);
         records::read_as(&mut self.port, &bytes, &ReadBack::Record(own), dice.next() as usize)?;
@@ -120,16 +124,27 @@ fn count(dice: &mut Dice) -> usize {
     }
 }
 
-/// A text's figure, in the order of the text's nodes, its record and numbering.
+/// One text in six, plain or odd, has loops of any fraction at half of its nodes, so that two texts of a figure often differ in
+/// them.
+fn spelled(dice: &mut Dice, figure: &Figure, seldom: usize) -> Option<Spelling> {
+    let looped = if dice.one_in(6) { Looped::Often } else { Looped::Seldom };
+    spelling::short_spelling(dice, figure, seldom, looped)
+}
+
+/// A text, its loops, its figure in the order of the text's nodes, and what the library answers to it: record and numbering,
+/// and what the editing page computes.
 struct Filed {
+    text: Vec<u8>,
+    loops: Loops,
     figure: Figure,
     bytes: [u8; RECORD],
     numbering: Numbering,
+    article: Article,
 }
 
 impl Filed {
     /// Another text of the figure must have the same record, and nodes at the same place must correspond: the renumbering
-    /// that sends each of this text's to the other's there must carry this figure onto the other.
+    /// that sends each of this text's to the other's there must carry this figure onto the other. Their articles must agree.
     fn same_as(&self, other: &Self) -> Result<(), String> {
         if self.bytes != other.bytes {
             let shown = [self, other].map(|filed| records::shown(&filed.bytes));
@@ -143,46 +158,76 @@ impl Filed {
             let numberings = [self.numbering, other.numbering];
             return Err(format!("two spellings, and {numberings:?} do not carry one figure onto the other"));
         }
+        if !self.article.agrees(&other.article) {
+            let told = [self, other].map(|filed| format!("\"{}\" {:?}", filed.text.escape_ascii(), filed.article));
+            return Err(format!("two spellings, two articles: {} and {}", told[0], told[1]));
+        }
         Ok(())
+    }
+
+    /// Counts two texts of a figure.
+    fn count(&self, other: &Self, tally: &mut Tally) {
+        if self.loops != other.loops {
+            tally.count(OTHER_LOOPS);
+        }
+        let looped = [self, other].map(|filed| filed.loops.iter().any(Option::is_some));
+        if looped[0] != looped[1] {
+            tally.count(ONE_LOOPED);
+        }
+        self.article.count(&other.article, ARTICLES, tally);
     }
 }
 
 impl Pairs {
-    /// The record of a text for the figure, in the order given with it, read with the wish or without.
-    fn filed(
-        &mut self,
-        dice: &mut Dice,
-        figure: &Figure,
-        spelling: (Vec<u8>, Numbering),
-        wished: bool,
-    ) -> Result<Filed, String> {
-        let (text, order) = spelling;
+    /// A text for the figure, read with the wish or without.
+    fn filed(&mut self, dice: &mut Dice, figure: &Figure, spelling: Spelling, wished: bool) -> Result<Filed, String> {
+        let Spelling { text, order, loops } = spelling;
         let figure = figure.renumbered(&order);
-        let wishes = [if wished { dice.pick(&WISHES) } else { 0 }];
-        let asking = Asking { text: &text, wishes: &wishes };
+        let wish = if wished { dice.pick(&WISHES) } else { 0 };
+        let told = |what| format!("\"{}\": {what}", text.escape_ascii());
+        let asking = Asking { text: &text, wishes: &[wish] };
         let written = records::written(&mut self.port, asking, &figure, dice.next() as usize);
-        let (bytes, numbering) = written.map_err(|what| format!("\"{}\": {what}", text.escape_ascii()))?;
-        Ok(Filed { figure, bytes, numbering })
+        let (bytes, numbering) = written.map_err(told)?;
+        let asked = Asked { text: &text, wish };
+        let article = Article::of(&mut self.port, asked, &figure, dice.next() as usize).map_err(told)?;
+        Ok(Filed { text, loops, figure, bytes, numbering, article })
     }
 
-    fn changed(
+    /// The figure in another spelling, read with the wish or without, and with it where a length is infinite.
+    fn spelled_again(
         &mut self,
         dice: &mut Dice,
         figure: &Figure,
-        bytes: &[u8; RECORD],
+        filed: &Filed,
+        wished: bool,
         tally: &mut Tally,
     ) -> Result<(), String> {
+        let Some(odd) = spelled(dice, figure, 5) else { return Ok(()) };
+        let infinite = figure.is_infinite();
+        tally.count(if infinite { INFINITE } else { WITH_AND_WITHOUT });
+        let other = self.filed(dice, figure, odd, infinite || wished)?;
+        filed.same_as(&other)?;
+        filed.count(&other, tally);
+        Ok(())
+    }
+
+    /// A figure that differs in one place: filed apart, unless it is the same renumbered.
+    fn changed(&mut self, dice: &mut Dice, figure: &Figure, filed: &Filed, tally: &mut Tally) -> Result<(), String> {
         let other = chance::changed(dice, figure);
-        let Some(spelling) = spelling::short_spelling(dice, &other, 20) else {
+        let Some(spelling) = spelled(dice, &other, 20) else {
             tally.count(TOO_LONG);
             return Ok(());
         };
         let wished = other.is_infinite() || dice.one_in(2);
         let same = figure.same(&other);
         tally.count(if same { SAME } else { APART });
-        if same != (self.filed(dice, &other, spelling, wished)?.bytes == *bytes) {
+        let filed_other = self.filed(dice, &other, spelling, wished)?;
+        if same != (filed_other.bytes == filed.bytes) {
             let layouts = [figure, &other].map(|figure| records::shown(&figure.layout()));
             return Err(format!("a changed figure, the same: {same}; {} and {}", layouts[0], layouts[1]));
+        }
+        if same {
+            filed.same_as(&filed_other)?;
         }
         Ok(())
     }

@@ -298,18 +298,26 @@ impl Port {
         (bytes, self.numbering.lent().try_into().unwrap())
     }
 
-    /// Makes a call that writes doubles about a text that reading accepts: what it wrote, or the column of refusal 15. An error
-    /// says how it misbehaved.
-    pub fn doubles(&mut self, call: Call, nodes: usize, window: usize) -> Result<Result<Vec<f64>, usize>, String> {
+    /// Makes a call, any but `Record`, with a buffer that is long enough: what it answered, and what it wrote, nothing if it
+    /// refused. An error says how it misbehaved.
+    pub fn numbers(&mut self, call: Call, window: usize) -> Result<([usize; 4], &[u64]), String> {
         let (name, needs) = call.shape();
         self.call(call, needs + window % SPARE, window);
-        let (answer, out) = match self.answer.lent()[..2] {
-            [15, column] if column < nodes => ([15, column, 0, 0], None),
-            _ => ([0, nodes, 0, 0], Some(&self.words.lent()[..needs])),
-        };
-        let what = self.departs(&Want { answer, out: out.unwrap_or(&[]) });
-        what.map_or(Ok(()), |what| Err(format!("{name}: {what}")))?;
-        Ok(out.map(|words| words.iter().map(|&word| f64::from_bits(word)).collect()).ok_or(answer[1]))
+        let answer = self.answer.lent().try_into().unwrap();
+        let out = if self.returned == 0 { &self.words.lent()[..needs] } else { &[] };
+        let what = self.departs(&Want { answer, out });
+        what.map_or(Ok((answer, out)), |what| Err(format!("{name}: {what}")))
+    }
+
+    /// Likewise a call that writes doubles about a text that reading accepts: what it wrote, or the column of refusal 15.
+    pub fn doubles(&mut self, call: Call, nodes: usize, window: usize) -> Result<Result<Vec<f64>, usize>, String> {
+        match self.numbers(call, window)? {
+            ([0, told, 0, 0], words) if told == nodes => {
+                Ok(Ok(words.iter().map(|&word| f64::from_bits(word)).collect()))
+            }
+            ([15, column, 0, 0], _) if column < nodes => Ok(Err(column)),
+            (answer, _) => Err(format!("{}: answer {answer:?} for {nodes} nodes", call.shape().0)),
+        }
     }
 
     /// How the last call, any but `Record`, departs from what it must do; `None` if it doesn't.

@@ -17,7 +17,7 @@ use crate::{
     figures::Figure,
     port::{Asked, Call, Port},
     run::{self, Tally, Work},
-    spelling,
+    spelling::{self, Looped, Spelling},
 };
 
 const SPELLINGS: usize = 24;
@@ -239,7 +239,8 @@ impl Radii<'_> {
         let mut measured = Measured { walls: vec![], rust: vec![], smallest: 1.0, roomiest: 0.0 };
         for _ in 0..SPELLINGS {
             let seldom = dice.pick(&[4, 10, 40, 1000]);
-            let Some((text, _)) = spelling::short_spelling(dice, figure, seldom) else { continue };
+            let spelling = spelling::short_spelling(dice, figure, seldom, Looped::Seldom);
+            let Some(Spelling { text, .. }) = spelling else { continue };
             let (name, window) = (text.escape_ascii().to_string(), dice.next() as usize);
             let asked = Asked { text: &text, wish: 0 };
             let told = |what: String| format!("\"{name}\": {what}");

@@ -1,9 +1,10 @@
 //! Texts for a figure: its nodes in any order, its edges in any order and direction, fractions in any of their
-//! spellings.
+//! spellings, loops.
 
-use miratope::diagrams::Fraction;
+use miratope::diagrams::{Fraction, LIMIT};
 
 use crate::{
+    chance,
     dice::Dice,
     figures::{Figure, Numbering, PLAIN},
     lengths,
@@ -12,15 +13,51 @@ use crate::{
 /// Edges that join nothing.
 pub const TWOS: [&str; 8] = ["2", "2", "4/2", "6/3", "02", "2/1", "3/4/2", "4294967294/2147483647"];
 
-/// Appends a text for the figure and answers its order: node i of the text is the figure's order[i]. One choice in `seldom`
-/// is an odd one.
-pub fn spell(dice: &mut Dice, figure: &Figure, seldom: usize, text: &mut Vec<u8>) -> Numbering {
+/// How often a node gets a loop, which a figure disregards.
+#[derive(Clone, Copy)]
+pub enum Looped {
+    /// As seldom as an odd choice is, of 3.
+    Seldom,
+    /// Every other time, of any fraction.
+    Often,
+}
+
+impl Looped {
+    fn any_loop(self, dice: &mut Dice, seldom: usize) -> Option<Fraction> {
+        match self {
+            Self::Seldom => dice.one_in(seldom * 4).then_some(Fraction { num: 3, den: 1 }),
+            Self::Often => dice.one_in(2).then(|| chance::any_fraction(dice)),
+        }
+    }
+}
+
+/// The loop of each node, if it has one.
+pub type Loops = [Option<Fraction>; LIMIT];
+
+/// A text for a figure: node i of the text is the figure's order[i], and node i of the figure has loops[i].
+pub struct Spelling {
+    pub text: Vec<u8>,
+    pub order: Numbering,
+    pub loops: Loops,
+}
+
+/// Appends a text for the figure and answers its order and its loops, as `Spelling` has them. One choice in `seldom` is an odd
+/// one.
+pub fn spell(
+    dice: &mut Dice,
+    figure: &Figure,
+    seldom: usize,
+    looped: Looped,
+    text: &mut Vec<u8>,
+) -> (Numbering, Loops) {
     let order = if dice.one_in(3) { shuffled(dice, figure) } else { stroll(dice, figure) };
     let figure = figure.renumbered(&order);
-    let pairs = figure.all_pairs().filter(|&(i, j)| figure.joined(i, j));
-    let mut left: Vec<_> = pairs.map(|(i, j)| (i, j, figure.pair(i, j))).collect();
-    // Loops are disregarded.
-    left.extend((0..figure.count).filter(|_| dice.one_in(seldom * 4)).map(|i| (i, i, Fraction { num: 3, den: 1 })));
+    let mut left: Vec<_> = figure.joined_pairs().map(|(i, j)| (i, j, figure.pair(i, j))).collect();
+    let mut loops = [None; LIMIT];
+    for (i, &node) in order[..figure.count].iter().enumerate() {
+        loops[node] = looped.any_loop(dice, seldom);
+        left.extend(loops[node].map(|fraction| (i, i, fraction)));
+    }
 
     let mut walk = Walk { dice, figure, left, made: 0, here: None, seldom, text };
     while walk.made < figure.count || !walk.left.is_empty() {
@@ -29,16 +66,16 @@ pub fn spell(dice: &mut Dice, figure: &Figure, seldom: usize, text: &mut Vec<u8>
     if figure.count == 0 {
         walk.no_nodes();
     }
-    order
+    (order, loops)
 }
 
-/// A text for the figure and its order, if one of 255 bytes or less is found: odd, else plain.
-pub fn short_spelling(dice: &mut Dice, figure: &Figure, seldom: usize) -> Option<(Vec<u8>, Numbering)> {
-    for seldom in [seldom, 1000, 1000] {
+/// A text of 255 bytes or less for the figure, if one is found: odd, else plain, and at last with few loops.
+pub fn short_spelling(dice: &mut Dice, figure: &Figure, seldom: usize, looped: Looped) -> Option<Spelling> {
+    for (seldom, looped) in [(seldom, looped), (1000, looped), (1000, Looped::Seldom)] {
         let mut text = Vec::new();
-        let order = spell(dice, figure, seldom, &mut text);
+        let (order, loops) = spell(dice, figure, seldom, looped, &mut text);
         if text.len() <= 255 {
-            return Some((text, order));
+            return Some(Spelling { text, order, loops });
         }
     }
     None

@@ -5,7 +5,7 @@ use crate::{
     chance,
     dice::Dice,
     grammar, limit_texts,
-    spelling::{self, push_number},
+    spelling::{self, push_number, Looped},
 };
 
 /// Bytes that a reader tells apart: letters of nodes and others, digits, signs, spaces, and the bytes on both sides of the
@@ -116,12 +116,12 @@ fn whole(dice: &mut Dice, text: &mut Vec<u8>) {
     match dice.below(8) {
         0..=3 => {
             let figure = chance::spherical(dice, most);
-            spelling::spell(dice, &figure, seldom, text);
+            spelling::spell(dice, &figure, seldom, Looped::Seldom, text);
         }
         4 => {
             let count = dice.within(0, most);
             let figure = chance::any_figure(dice, count);
-            spelling::spell(dice, &figure, seldom, text);
+            spelling::spell(dice, &figure, seldom, Looped::Seldom, text);
         }
         _ => {
             let tokens = dice.within(1, 12);
