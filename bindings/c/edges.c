@@ -1177,6 +1177,79 @@ static void names_in_other_buffers(void)
     expect(&names, text("x3o4o"), LEXICON_NAMES + 1, ANSWER(0, 1));
 }
 
+// ---- articles
+
+enum { TOLD = 3 }; // numbers of a name: letter, number behind it, order
+
+// What an article tells of a text. Names are sorted; there are none if no name fits a component.
+struct article {
+    size_t minimal, edges, refused, components;
+    uint64_t names[LEXICON_LIMIT][TOLD];
+};
+
+static int by_numbers(const void *one, const void *other)
+{
+    const uint64_t *a = one, *b = other;
+    size_t i = 0;
+    while (i + 1 < TOLD && a[i] == b[i])
+        i++;
+    return (a[i] > b[i]) - (a[i] < b[i]);
+}
+
+static size_t called(const struct call *call, struct input in)
+{
+    now = call;
+    given = in;
+    given_out = call->writes;
+    return run(out);
+}
+
+static struct article article_of(struct input in)
+{
+    struct article article = {0};
+    const uint64_t *places = out;
+    check(called(&read_text, in) == 0, "it refuses the text");
+    article.minimal = answer[3];
+    for (size_t j = 0; j < answer[1]; j++)
+        for (size_t i = 0; i < j; i++)
+            article.edges += places[2 * LEXICON_LIMIT + 3 * (j * (j + 1) / 2 + i)] != 0;
+    article.refused = called(&names, in);
+    check(article.refused == 0 || article.refused == 21, "it refuses the text");
+    if (article.refused == 0)
+        article.components = answer[1];
+    for (size_t i = 0; i < article.components; i++)
+        memcpy(article.names[i], places + 4 * i + 1, sizeof article.names[i]);
+    qsort(article.names, article.components, sizeof article.names[0], by_numbers);
+    return article;
+}
+
+// Two texts of a figure, the second with loops or in another order: equal records, equal articles.
+static void equal_articles(void)
+{
+    static const struct {
+        const char *texts[2];
+        struct article due;
+    } equal[] = {
+        {{"x3o4o", "o4o3x5*c"}, {1, 2, 0, 1, {{'B', 3, 48}}}},
+        {{"x3o4o", "xoo *b4*c *a3*b *a7/2*a"}, {1, 2, 0, 1, {{'B', 3, 48}}}},
+        {{"x3o3o x7o", "x7*a7o x3o3o4/3*e"}, {1, 3, 0, 2, {{'A', 3, 24}, {'I', 7, 14}}}},
+        {{"s3s x5o x", "x x5o s3s"}, {0, 2, 0, 3, {{'A', 1, 2}, {'A', 2, 6}, {'I', 5, 10}}}},
+        {{"x5/2o x3o", "x3o x5/2o"}, {1, 2, 21, 0, {{0}}}}, // 21 at 0 and at 2
+        {{"x3x3x3*a", "x3x3x *c3*a *b9*b"}, {1, 3, 21, 0, {{0}}}},
+        {{"oo", "o7*a o"}, {0, 0, 0, 2, {{'A', 1, 2}, {'A', 1, 2}}}},
+        {{"*a", "*-c2*b"}, {1, 0, 0, 0, {{0}}}},
+    };
+    for (size_t i = 0; i < LEN(equal); i++) {
+        uint8_t filed[2][LEXICON_RECORD];
+        for (size_t k = 0; k < 2; k++) {
+            record_of(equal[i].texts[k], filed[k]);
+            struct article article = article_of(text(equal[i].texts[k]));
+            check(memcmp(&article, &equal[i].due, sizeof article) == 0, "its article is another");
+        }
+        check(memcmp(filed[0], filed[1], LEXICON_RECORD) == 0, "the record of a spelling is another");
+    }
+}
+
 // In this order: the shelf is filled before it is looked at.
 static void (*const tests[])(void) = {
     accepted_texts, lowest_terms, refused_texts, refused_geometry, refused_infinite_lengths, wishes, lengths, single_bytes, bytes_at_every_position,
@@ -1184,6 +1257,7 @@ static void (*const tests[])(void) = {
     fill_shelf, shelves, file_lengths, damaged_places, unsorted_places, refused_records, short_buffers, orders, many_places,
     families, past_one_node, walls_at_right_angles, wall_radii, walls_of_no_nodes, family_walls_are_of_texts,
     every_name, names_of_few_nodes, several_components, names_of_spellings, refused_names, names_without_mirrors, names_in_other_buffers,
+    equal_articles,
 };
 
 int main(void)

@@ -49,6 +49,9 @@ at the first node of its component; the group of several components is their pro
 lengths and loops play no part. No name fits a component whose group is infinite, nor one with
 a fraction such as 5/2 for an edge.
 
+From every spelling of a figure the same is told of minimal, of how many edges there are but for
+loops, and of the groups, though these may come in another order.
+
 With --geometry, decimals are the shortest that give the double back. The walls are mirrors as
 Coxeter has them, and the radius of the generator over them is the one to print: the circumradius
 of the figure whose edges have these lengths, the same for every spelling but for the last

@@ -89,7 +89,7 @@ fn in_words(node: &Node) -> String {
 
 fn joined(stored: &StoredEdge) -> String {
     let number = fraction(stored.edge);
-    let rest = if stored.a == stored.b { ", a loop" } else { "" };
+    let rest = if stored.is_loop() { ", a loop" } else { "" };
     format!("{}-{}: {number}{rest}", name(stored.a), name(stored.b))
 }
 

@@ -97,7 +97,7 @@ fn listed(cd: &Cd) -> Vec<String> {
     lines.push(head("edges", cd.edge_count()));
     lines.extend(cd.edges().iter().map(|stored| {
         let number = stored.edge.to_string().replace(' ', "");
-        let rest = if stored.a == stored.b { ", a loop" } else { "" };
+        let rest = if stored.is_loop() { ", a loop" } else { "" };
         format!("  {}-{}: {number}{rest}", name(stored.a), name(stored.b))
     }));
     lines.push(if cd.minimal() {

@@ -21,7 +21,7 @@ pub struct Loop {
 
 /// The loops of a text, each with the place of its node in the record.
 fn of_text(cd: &Cd, numbering: &[usize]) -> Vec<(usize, Edge)> {
-    let loops = cd.edges().into_iter().filter(|stored| stored.a == stored.b);
+    let loops = cd.edges().into_iter().filter(|stored| stored.is_loop());
     let mut loops: Vec<(usize, Edge)> = loops
         .filter_map(|stored| {
             let place = numbering.iter().position(|&node| node == stored.a)?;

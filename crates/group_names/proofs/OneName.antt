@@ -14,7 +14,7 @@ use Rattle.cd.specs.Diagrams.{Stored}
 use Rattle.filing.specs.Fractions.{Fraction, SameFraction}
 use Rattle.filing.specs.Numberings.{Numbering}
 use Rattle.filing.proofs.Numberings.{differ}
-use Rattle.minimal.proofs.Paths.{path-below}
+use Rattle.minimal.proofs.Paths.{path-in}
 use Rattle.tables.specs.Diagrams.{joint}
 use Rattle.group_names.specs.Named.{over1, Named}
 use Rattle.group_names.specs.Names.{isName, rank, entry}
@@ -174,7 +174,7 @@ one-name n es c hc positive {x} {y} p q = alike-same x y (p .valid) (q .valid) a
     }
 
     below : (i : ℕ) → i < rank x → f i < n
-    below i l = path-below n (λ i j e. e .other) (p .fits .inside i l) hc
+    below i l = path-in hc (p .fits .inside i l)
 
     same : (i j : ℕ) → i < rank x → j < rank x → i ≢ j → entry x i j ≡ entry y (g i) (g j)
     same i j l m ne =

@@ -14,7 +14,7 @@ use Rattle.filing.specs.Diagrams.{IsEdge}
 use Rattle.filing.specs.Fractions.{Fraction, SameFraction, gcd, lowest}
 use Rattle.filing.specs.Numberings.{at}
 use Rattle.filing.proofs.Gcd.{lowest-same, lowest-den-le, gcd-pos, gcd-zero}
-use Rattle.minimal.proofs.Paths.{path-below}
+use Rattle.minimal.proofs.Paths.{path-in}
 use Rattle.tables.specs.Diagrams.{joint}
 use Rattle.tables.specs.Tables.{number}
 use Rattle.tables.proofs.Joints.{joint-symmetric}
@@ -79,15 +79,12 @@ module _ (n : ℕ) (es : List Stored) (N : ℕ) (pairs of : List ℕ)
     (labelled : Labelled (Linked n es) n (at of))
     (numbers : (u v : ℕ) → u < n → v < n → u ≢ v → at pairs (N * u + v) ≡ number (joint es u v))
     (edges : (u v : ℕ) → u < n → v < n → u ≢ v → IsEdge (joint es u v)) where
-  inside : {c v : ℕ} → c < n → Path (Linked n es) c v → v < n
-  inside h p = path-below n (λ i j e. e .other) p h
-
   module _ {c : ℕ} (hc : c < n) (own : at of c ≡ c) where
     label-path : (v : ℕ) → v < n → at of v ≡ c → Path (Linked n es) c v
     label-path v hv e = labelled .joins c v hc hv (own ∙ sym e)
 
     path-label : (v : ℕ) → Path (Linked n es) c v → at of v ≡ c
-    path-label v p = sym (labelled .same c v hc (inside hc p) p) ∙ own
+    path-label v p = sym (labelled .same c v hc (path-in hc p) p) ∙ own
 
     module _ {x : Name} where
       pub takes-named : Takes N pairs of n c x → Named n es c x
@@ -113,7 +110,7 @@ module _ (n : ℕ) (es : List Stored) (N : ℕ) (pairs of : List ℕ)
 
           all : (v : ℕ) → Path (Linked n es) c v → (i : ℕ) × (i < rank x) × (f i ≡ v)
           all v p =
-              let (i, h, s) = label-onto of c refl (e .within) (e .label) (embeds-apart e) v (inside hc p) (path-label v p) in
+              let (i, h, s) = label-onto of c refl (e .within) (e .label) (embeds-apart e) v (path-in hc p) (path-label v p) in
               (i, omega (arith, t .size, h), s)
 
           rising : (i j : ℕ) → i < j → j < m → SameFraction (joint es (f i) (f j)) (over1 (entry x i j))
@@ -145,7 +142,7 @@ module _ (n : ℕ) (es : List Stored) (N : ℕ) (pairs of : List ℕ)
           t = d .fits
 
           below : (i : ℕ) → i < rank x → f i < n
-          below i h = inside hc (t .inside i h)
+          below i h = path-in hc (t .inside i h)
 
           labels : (i : ℕ) → i < rank x → at of (f i) ≡ c
           labels i h = path-label (f i) (t .inside i h)
@@ -177,7 +174,7 @@ module _ (n : ℕ) (es : List Stored) (N : ℕ) (pairs of : List ℕ)
   -- ---- the list of components
 
   label-lowest : (k : ℕ) → k < n → at of k ≡ k → Lowest n es k
-  label-lowest k h own v p = omega (arith, labelled .lowest k v h (inside h p) p)
+  label-lowest k h own v p = omega (arith, labelled .lowest k v h (path-in h p) p)
 
   lowest-label : (k : ℕ) → k < n → Lowest n es k → at of k ≡ k
   lowest-label k h low =

@@ -16,7 +16,7 @@ use Rattle.cd.specs.Minimal.{isRinged, RingedAt, Linked, Minimal}
 use Rattle.cd.specs.Paths.{Path, here, on}
 use Rattle.cd.specs.declared.Node.{Node}
 use Rattle.cd.specs.declared.Node.the-variants.{Unringed, Ringed, Snub}
-use Rattle.cd.proofs.Stored.{joined-symmetric, joined-append}
+use Rattle.cd.proofs.Stored.{joined-append}
 use Rattle.filing.specs.Diagrams.{Carries}
 use Rattle.filing.specs.Fractions.{Fraction, SameFraction}
 use Rattle.filing.specs.Numberings.{Numbering}
@@ -26,7 +26,7 @@ use Rattle.group_names.specs.Named.{over1, Named}
 use Rattle.group_names.specs.Names.{rank, entry}
 use Rattle.group_names.specs.declared.Name.{Name}
 use Rattle.lexicon.proofs.Tidy.{Tidy, none, more}
-use Rattle.minimal.proofs.Paths.{path-join, path-back, path-below}
+use Rattle.minimal.proofs.Paths.{path-join, path-turned, path-in}
 use Rattle.tables.specs.Diagrams.{filed, two, joint, diagram}
 use Rattle.tables.specs.Tables.{IsKept}
 
@@ -124,16 +124,6 @@ module _ (ns ms : List Node) (es fs : List Stored) (f : ℕ → ℕ) (kept-s : I
   }
 
 -- ---- paths
-
-module _ {n : ℕ} {es : List Stored} where
-  pub linked-turned : (i j : ℕ) → Linked n es i j → Linked n es j i
-  linked-turned i j e = record { first = e .other; other = e .first; stored = joined-symmetric es j i ∙ e .stored }
-
-  pub path-turned : {i j : ℕ} → Path (Linked n es) i j → Path (Linked n es) j i
-  path-turned p = path-back linked-turned p
-
-  pub path-in : {i j : ℕ} → i < n → Path (Linked n es) i j → j < n
-  path-in h p = path-below n (λ i j e. e .other) p h
 
 module _ {ns ms : List Node} {es fs : List Stored} (c : Carried ns es ms fs) where
   step : (i j : ℕ) {k : ℕ} → Linked (length ns) es i j → Path (Linked (length ms) fs) (c .to j) k → Path (Linked (length ms) fs) (c .to i) k

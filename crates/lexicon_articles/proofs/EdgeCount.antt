@@ -1,23 +1,21 @@
 -- In tidy edges each one between different nodes joins a pair that none joined before, so their number is that of the pairs of different nodes that are joined, which no
 -- renumbering changes. In an answered diagram a pair has a rank exactly where an edge joins it. Assumes nothing.
-use mathlib.Core.Bool.{Bool, true, false, not, _||_, true≢false}
+use mathlib.Core.Bool.{true, false, _||_, true≢false}
 use mathlib.Core.List.{List, [], _∷_, _++_}
-use mathlib.Core.Logic.{inl, inr, ⊎-elim}
+use mathlib.Core.Logic.{_≢_, inl, inr, ⊎-elim}
 use mathlib.Core.Path.{_≡_, refl, sym, ap, ap₂, _∙_}
 use Prim.Native.Nat.{ℕ, _+_, _≤_, _<_}
-use native.Mathlib.Decide.{decLt}
-use native.Mathlib.Nat.{zero-add}
+use native.Mathlib.Decide.{decLt, ℕ-discrete}
 use native.Mathlib.Omega.{arith}
 use borrow.Author.Tests.{eq-eqb, ne-eqb}
-use lib.Dec.{ltb, eqb}
-use lib.ListN.{length}
-use Rattle.float.specs.Pick.{pick}
+use lib.Dec.{ltb}
+use lib.ListN.{length, length-append}
 use Rattle.cd.specs.Diagrams.{Stored, joins, isJoined, none, limit, cdOf}
 use Rattle.cd.specs.declared.Cd.{Cd}
 use Rattle.cd.specs.declared.Node.{Node}
 use Rattle.cd.specs.declared.Pair.{Pair}
 use Rattle.cd.proofs.Stored.{joins-same, joins-other, joined-symmetric, joined-append, rank-joined, loaded, count-held, pairs-held}
-use Rattle.filing.specs.Counts.{one, pairCount}
+use Rattle.filing.specs.Counts.{pairCount}
 use Rattle.filing.specs.Numberings.{Numbering}
 use Rattle.filing.proofs.Sums.{pairs-local, pairs-or, pairs-none, pairs-alone, pairs-renumbered}
 use Rattle.lexicon.proofs.Tidy.{Tidy, more}
@@ -25,39 +23,46 @@ use Rattle.lexicon.proofs.Tidy as tidy
 use Rattle.lexicon_articles.specs.Articles.{withoutLoops, edgeCount}
 use Rattle.lexicon_articles.proofs.Carried.{Carried}
 
+-- ---- a loop is left out, and nothing else
+
+module _ (s : Stored) (es : List Stored) where
+  loop-left-out : s .first ≡ s .other → withoutLoops (s ∷ es) ≡ withoutLoops es
+  unfolding withoutLoops
+  loop-left-out e = rw (eq-eqb (s .first) (s .other) e)
+
+  other-kept : s .first ≢ s .other → withoutLoops (s ∷ es) ≡ s ∷ withoutLoops es
+  unfolding withoutLoops
+  other-kept ne = rw (ne-eqb (s .first) (s .other) ne)
+
+without-append : (es : List Stored) (s : Stored) → withoutLoops (es ++ (s ∷ [])) ≡ withoutLoops es ++ withoutLoops (s ∷ [])
+unfolding withoutLoops
+without-append [] s = refl
+without-append (e ∷ es) s =
+    elim (ℕ-discrete (e .first) (e .other)) [
+      | yes q ↦ rw (loop-left-out e (es ++ (s ∷ [])) q, loop-left-out e es q) (without-append es s)
+      | no q ↦ rw (other-kept e (es ++ (s ∷ [])) q, other-kept e es q) (ap (λ l. e ∷ l) (without-append es s))
+    ]
+
 -- ---- one edge more
 
-without-append : (es : List Stored) (s : Stored) → length (withoutLoops (es ++ (s ∷ []))) ≡ length (withoutLoops es) + one (not (eqb (s .first) (s .other)))
-unfolding withoutLoops
-without-append [] s = go (eqb (s .first) (s .other))
-  where
-    go : (b : Bool) → length (pick b [] (s ∷ [])) ≡ 0 + one (not b)
-    go true = refl
-    go false = refl
-without-append (e ∷ es) s = go (eqb (e .first) (e .other)) (withoutLoops (es ++ (s ∷ []))) (withoutLoops es) (without-append es s)
-  where
-    go : (b : Bool) (l m : List Stored) → length l ≡ length m + one (not (eqb (s .first) (s .other)))
-        → length (pick b l (e ∷ l)) ≡ length (pick b m (e ∷ m)) + one (not (eqb (s .first) (s .other)))
-    go true l m h = h
-    go false l m h = omega arith
-
 -- the pairs that it joins
-joins-count : (n : ℕ) (s : Stored) → s .first < n → s .other < n → pairCount (λ i j. joins i j s) n ≡ one (not (eqb (s .first) (s .other)))
+joins-count : (n : ℕ) (s : Stored) → s .first < n → s .other < n → pairCount (λ i j. joins i j s) n ≡ length (withoutLoops (s ∷ []))
+unfolding withoutLoops
 joins-count n s a b =
     elim (decLt (s .first) (s .other)) [
       | yes l ↦
           pairs-alone (λ i j. joins i j s) n (s .first) (s .other) l b (joins-same (s .first) (s .other) s (inl (refl, refl)))
           (λ i j k ne. joins-other i j s (⊎-elim (λ q. ne (sym (q .0), sym (q .1))) (λ q. omega arith)))
-          ∙ rw (ne-eqb (s .first) (s .other) (λ e. omega arith))
+          ∙ sym (ap length (other-kept s [] (λ e. omega arith)))
       | no l ↦
           elim (decLt (s .other) (s .first)) [
             | yes m ↦
                 pairs-alone (λ i j. joins i j s) n (s .other) (s .first) m a (joins-same (s .other) (s .first) s (inr (refl, refl)))
                 (λ i j k ne. joins-other i j s (⊎-elim (λ q. omega arith) (λ q. ne (sym (q .1), sym (q .0)))))
-                ∙ rw (ne-eqb (s .first) (s .other) (λ e. omega arith))
+                ∙ sym (ap length (other-kept s [] (λ e. omega arith)))
             | no m ↦
                 pairs-none (λ i j. joins i j s) n (λ i j k h. joins-other i j s (⊎-elim (λ q. omega arith) (λ q. omega arith)))
-                ∙ rw (eq-eqb (s .first) (s .other) (omega arith))
+                ∙ sym (ap length (loop-left-out s [] (omega arith)))
           ]
     ]
 
@@ -68,7 +73,7 @@ tidy-count {n} (more {es} {s} w f) =
     pairs-local (isJoined (es ++ (s ∷ []))) (λ i j. isJoined es i j || joins i j s) n (λ i j l h. joined-append es s i j)
     ∙ pairs-or (isJoined es) (λ i j. joins i j s) n new
     ∙ ap₂ _+_ (tidy-count w) (joins-count n s (f .first-in) (f .other-in))
-    ∙ sym (without-append es s)
+    ∙ sym (ap length (without-append es s) ∙ length-append (withoutLoops es) (withoutLoops (s ∷ [])))
   where
     new : (i j : ℕ) → isJoined es i j ≡ true → joins i j s ≡ false
     new i j h =

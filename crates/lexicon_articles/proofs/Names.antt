@@ -23,10 +23,10 @@ use Rattle.group_names.proofs.Listed.{lists-short, entry-at, entries-apart, ent
 use Rattle.group_names.proofs.Matching.{Partners, choose, matched-le}
 use Rattle.group_names.proofs.OneName.{one-name}
 use Rattle.minimal.proofs.Labelling.{labelling}
-use Rattle.minimal.proofs.Paths.{path-join}
+use Rattle.minimal.proofs.Paths.{path-join, linked-turned, path-turned, path-in}
 use Rattle.tables.specs.Diagrams.{joint}
 use Rattle.lexicon_articles.specs.Articles.{SameMultiset, nameAt, SameNames, named, nameless}
-use Rattle.lexicon_articles.proofs.Carried.{Carried, turned, linked-turned, path-turned, path-in, path-uncarried, named-along, named-carried}
+use Rattle.lexicon_articles.proofs.Carried.{Carried, turned, path-uncarried, named-along, named-carried}
 
 -- ---- the lowest node of a component
 

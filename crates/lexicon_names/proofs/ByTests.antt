@@ -18,7 +18,6 @@ use Rattle.cd.specs.Minimal.{Linked}
 use Rattle.cd.specs.Paths.{Path, here, on}
 use Rattle.cd.specs.declared.CdError.the-variants.{NoName}
 use Rattle.cd.specs.declared.Node.{Node}
-use Rattle.cd.proofs.Stored.{joined-symmetric}
 use Rattle.filing.specs.Fractions.{SameFraction}
 use Rattle.filing.proofs.Numberings.{pigeonhole}
 use Rattle.group_names.specs.Named.{over1, Named, Lowest, Nameless, Lists, none, passed, listed, group, listing, refusal, named, nameless}
@@ -29,16 +28,13 @@ use Rattle.group_names.specs.declared.Name.{Name}
 use Rattle.group_names.specs.declared.Name.the-variants.{A, B, D, E6, E7, E8, F4, H3, H4, I2}
 use Rattle.group_names.proofs.Matching.{matched-le}
 use Rattle.lexicon.proofs.Marks.{every, every-at, implies, implied, closed, path-stays}
-use Rattle.minimal.proofs.Paths.{path-back, path-below}
+use Rattle.minimal.proofs.Paths.{path-turned, path-in}
 use Rattle.parse.specs.Reading.{Accepted, read}
 use Rattle.tables.specs.Diagrams.{joint}
 use Rattle.lexicon_names.specs.NamesText.{NamesText, told}
 
 both : (a b : Bool) → (a && b) ≡ true → (a ≡ true) × (b ≡ true)
 both a b h = and-eq-true-iff a b .0 h
-
-turned : {n : ℕ} {es : List Stored} (i j : ℕ) → Linked n es i j → Linked n es j i
-turned {es = es} i j e = record { first = e .other; other = e .first; stored = joined-symmetric es j i ∙ e .stored }
 
 -- what a text's names are found by: of each node its component's lowest and the next on the way there; of each component's lowest node the name and, for each
 -- place, the node; of each node its place
@@ -137,7 +133,7 @@ module _ (n : ℕ) (es : List Stored) (f : Found) where
         let u = f .node c i in
         let a = both (ltb u n) _ (every-at (isInside c) m i (tested .inside) l) in
         let b = both (leadsTo c n u) _ (a .1) in
-        (path-back turned (leads-path c n u (ltb-true u n (a .0)) (b .0)), eqb-true (f .place u) i (b .1))
+        (path-turned (leads-path c n u (ltb-true u n (a .0)) (b .0)), eqb-true (f .place u) i (b .1))
 
     number : (i j : ℕ) → i < m → j < m → i ≢ j → SameFraction (joint es (f .node c i) (f .node c j)) (over1 (entry (f .name c) i j))
     unfolding isEdged m
@@ -237,7 +233,7 @@ module _ (n : ℕ) (es : List Stored) where
     f = d .places
 
     below : (i : ℕ) → i < rank x → f i < n
-    below i l = path-below n (λ i j e. e .other) (d .fits .inside i l) hc
+    below i l = path-in hc (d .fits .inside i l)
 
     behind : (k j : ℕ) → k < rank x → j ≤ k → isBehind x k (f k) j (firsts f j) ≡ true
     unfolding isBehind firsts
@@ -314,5 +310,5 @@ module _ {wish : Bool} {text : List ℕ} {ns : List Node} {es : List Stored} {r 
       let three = ltb-true 2 n b in
       let hc : 0 < length ns = omega arith in
       let whole : (v : ℕ) → v < length ns → Path (Linked (length ns) es) 0 v =
-      λ v l. path-back turned (leads-path (length ns) es f 0 (length ns) v l (every-at (leadsTo (length ns) es f 0 (length ns)) (length ns) v t l)) in
+      λ v l. path-turned (leads-path (length ns) es f 0 (length ns) v l (every-at (leadsTo (length ns) es f 0 (length ns)) (length ns) v t l)) in
       told h (nameless hc none (λ v p. zero-le) (none-fits (length ns) es hc three whole u) e)

@@ -13,7 +13,7 @@ use Rattle.cd.specs.declared.Cd.{Cd}
 use Rattle.cd.specs.declared.Node.{Node}
 use Rattle.cd.specs.declared.Node.the-variants.{Unringed}
 use Rattle.cd.specs.declared.Place.{Place}
-use Rattle.minimal.proofs.Paths.{path-below}
+use Rattle.minimal.proofs.Paths.{path-in}
 use Rattle.cd.proofs.Stored.{count-held, node-held}
 
 -- whether the node in place i is ringed
@@ -39,7 +39,7 @@ module _ (cd : Cd) (ns : List Node) (es : List Stored) (held : cd ≡ cdOf ns es
       record {
         only-when = λ _ i h.
             let path = of .member i h in
-            let low : f i < length ns = path-below (length ns) (λ i j e. e .other) path h in
+            let low : f i < length ns = path-in h path in
             let r = has (f i) (omega (arith, counted)) (sym (of .same i (f i) h low path)) in
             let inside : r .at < length ns = omega (arith, counted) in
             record { at = r .at; path = of .joins i (r .at) h inside (sym (r .label)); ring = record { inside = inside; ringed = sym (same-ring (r .at) inside) ∙ r .ring } };
