@@ -1,9 +1,9 @@
--- Each renumbering has an inverse: n numbers that differ and are below n leave none out, or they could be squeezed below n − 1, and so on down to nothing.
--- Assumes nothing.
+-- Each renumbering has an inverse: n numbers that differ and are below n leave none out, or they could be squeezed below n − 1, and so on down to nothing. Without
+-- one place it is a renumbering of the others. Assumes nothing.
 use mathlib.Core.Logic.{_≢_, _⊎_, inl, inr}
 use mathlib.Core.Path.{_≡_, refl, sym, ap, _∙_}
 use Prim.Native.Nat.{ℕ, zero, suc, _≤_, _<_, zero-le, suc-le-suc}
-use native.Mathlib.Decide.{ℕ-discrete}
+use native.Mathlib.Decide.{ℕ-discrete, decLt}
 use native.Mathlib.Nat.{not-suc-le-zero, le-refl, lt-irrefl}
 use native.Mathlib.Omega.{arith}
 use Rattle.filing.specs.Numberings.{Injects, Numbering}
@@ -126,3 +126,48 @@ module _ {n : ℕ} {f : ℕ → ℕ} (a : Numbering n f) where
     within = λ v h. inverse-found v h .0;
     apart = λ u v h k e. sym (inverse-right u h) ∙ ap f e ∙ inverse-right v k;
   }
+
+-- ---- one taken out
+
+-- the numbers without k
+pub past : ℕ → ℕ → ℕ
+past k i = elim (decLt i k) [ yes l ↦ i | no l ↦ suc i ]
+
+past-cases : (k i : ℕ) → ((i < k) × (past k i ≡ i)) ⊎ ((k ≤ i) × (past k i ≡ suc i))
+unfolding past
+past-cases k i = go (decLt i k) refl
+  where
+    go : (d : Dec (i < k)) → decLt i k ≡ d → ((i < k) × (past k i ≡ i)) ⊎ ((k ≤ i) × (past k i ≡ suc i))
+    go (yes l) e = inl (l, rw (e, past))
+    go (no l) e = inr (omega arith, rw (e, past))
+
+pub past-below : (k i : ℕ) → i < k → past k i ≡ i
+past-below k i h = elim (past-cases k i) [ inl c ↦ c .1 | inr c ↦ omega arith ]
+
+pub past-from : (k i : ℕ) → k ≤ i → past k i ≡ suc i
+past-from k i h = elim (past-cases k i) [ inl c ↦ omega arith | inr c ↦ c .1 ]
+
+past-apart : (k i j : ℕ) → past k i ≡ past k j → i ≡ j
+past-apart k i j e = go (past-cases k i) (past-cases k j)
+  where
+    go : ((i < k) × (past k i ≡ i)) ⊎ ((k ≤ i) × (past k i ≡ suc i)) → ((j < k) × (past k j ≡ j)) ⊎ ((k ≤ j) × (past k j ≡ suc j)) → i ≡ j
+    go (inl c) (inl d) = omega arith
+    go (inl c) (inr d) = omega arith
+    go (inr c) (inl d) = omega arith
+    go (inr c) (inr d) = omega arith
+
+-- without the place k of the last number, a numbering of the others
+pub past-numbering : (n : ℕ) (p : ℕ → ℕ) (k : ℕ) → Numbering (suc n) p → k < suc n → p k ≡ n → Numbering n (λ i. p (past k i))
+past-numbering n p k a h e = record {
+  within = λ i l.
+      let b = a .within (past k i) (low i l) in
+      let c : p (past k i) ≢ n = λ y. other i (a .apart (past k i) k (low i l) h (y ∙ sym e)) in
+      omega arith;
+  apart = λ i j l m y. past-apart k i j (a .apart (past k i) (past k j) (low i l) (low j m) y);
+}
+  where
+    low : (i : ℕ) → i < n → past k i < suc n
+    low i l = elim (past-cases k i) [ inl c ↦ omega arith | inr c ↦ omega arith ]
+
+    other : (i : ℕ) → past k i ≢ k
+    other i y = elim (past-cases k i) [ inl c ↦ omega arith | inr c ↦ omega arith ]

@@ -5,21 +5,20 @@ use mathlib.Core.Bool.{Bool, true, false, not, _||_}
 use mathlib.Core.List.{List, [], _∷_, _++_}
 use mathlib.Core.Logic.{_≢_}
 use mathlib.Core.Path.{_≡_, refl, sym, ap, ap₂, _∙_, subst}
-use Prim.Native.Nat.{ℕ, _*_, _<_}
+use Prim.Native.Nat.{ℕ, _<_}
 use native.Mathlib.Decide.{ℕ-discrete}
 use lib.Dec.{eqb}
 use lib.ListN.{length, getD}
 use Rattle.float.specs.Pick.{pick}
-use Rattle.cd.specs.Diagrams.{Stored, joins, isJoined, limit}
-use Rattle.cd.specs.Edges.{isTwo, fraction}
-use Rattle.cd.specs.Minimal.{isRinged, RingedAt, Linked, Minimal}
+use Rattle.cd.specs.Diagrams.{Stored, joins, isJoined}
+use Rattle.cd.specs.Edges.{isTwo, fraction, edgeOf}
+use Rattle.cd.specs.Minimal.{isRinged, Linked, Minimal}
 use Rattle.cd.specs.Paths.{Path, here, on}
 use Rattle.cd.specs.declared.Node.{Node}
 use Rattle.cd.specs.declared.Node.the-variants.{Unringed, Ringed, Snub}
 use Rattle.cd.proofs.Stored.{joined-append}
 use Rattle.filing.specs.Diagrams.{Carries}
 use Rattle.filing.specs.Fractions.{Fraction, SameFraction}
-use Rattle.filing.specs.Numberings.{Numbering}
 use Rattle.filing.proofs.Gcd.{lowest-same}
 use Rattle.filing.proofs.Numberings.{inverse, inverse-left, inverse-right, inverse-numbering}
 use Rattle.group_names.specs.Named.{over1, Named}
@@ -32,9 +31,6 @@ use Rattle.tables.specs.Tables.{IsKept}
 
 -- ---- joined exactly where the fraction is not 2
 
-abbrev pub worthTwo : Fraction → Bool
-worthTwo x = eqb (x .num) (2 * x .den)
-
 joint-append : (es : List Stored) (s : Stored) (i j : ℕ) → joint (es ++ (s ∷ [])) i j ≡ pick (isJoined es i j) (joint es i j) (joint (s ∷ []) i j)
 unfolding joint isJoined
 joint-append [] s i j = refl
@@ -44,13 +40,13 @@ joint-append (e ∷ es) s i j = rw (joint-append es s i j) (go (joins i j e))
     go true = refl
     go false = refl
 
-pub joined-fraction : {n : ℕ} {es : List Stored} → Tidy n es → (i j : ℕ) → isJoined es i j ≡ not (worthTwo (joint es i j))
+pub joined-fraction : {n : ℕ} {es : List Stored} → Tidy n es → (i j : ℕ) → isJoined es i j ≡ not (isTwo (edgeOf (joint es i j)))
 unfolding isJoined joint isTwo
 joined-fraction none i j = refl
 joined-fraction (more {es} {s} w f) i j =
     rw (joined-append es s i j, joint-append es s i j) (go (isJoined es i j) (joins i j s) (joint es i j) (joined-fraction w i j))
   where
-    go : (a b : Bool) (x : Fraction) → a ≡ not (worthTwo x) → a || b ≡ not (worthTwo (pick a x (pick b (fraction (s .edge)) two)))
+    go : (a b : Bool) (x : Fraction) → a ≡ not (isTwo (edgeOf x)) → a || b ≡ not (isTwo (edgeOf (pick a x (pick b (fraction (s .edge)) two))))
     go true b x h = h
     go false true x h = sym (ap not (f .no-two))
     go false false x h = refl
@@ -93,7 +89,7 @@ ringed-kind (Ringed x) = refl
 ringed-kind (Snub x) = refl
 
 -- of two diagrams as accepted texts have them
-module _ (ns ms : List Node) (es fs : List Stored) (f : ℕ → ℕ) (kept-s : IsKept limit (diagram ns es)) (kept-t : IsKept limit (diagram ms fs)) (tidy-s : Tidy (length ns) es) (tidy-t : Tidy (length ms) fs)
+module _ (ns ms : List Node) (es fs : List Stored) (f : ℕ → ℕ) {N : ℕ} (kept-s : IsKept N (diagram ns es)) (kept-t : IsKept N (diagram ms fs)) (tidy-s : Tidy (length ns) es) (tidy-t : Tidy (length ms) fs)
     (c : Carries (diagram ns es) (diagram ms fs) f) where
   within : (i : ℕ) → i < length ns → f i < length ms
   unfolding diagram
@@ -120,7 +116,7 @@ module _ (ns ms : List Node) (es fs : List Stored) (f : ℕ → ℕ) (kept-s : I
     to-from = λ i h. inverse-right (c .numbering) i (rw (← (c .size)) at h);
     ringed = λ i h. ringed-kind (getD ns i Unringed) ∙ ap (λ v. eqb (v .kind) 2) (c .nodes i h) ∙ sym (ringed-kind (getD ms (f i) Unringed));
     fractions = same-fraction;
-    joined = λ i j h k ne. joined-fraction tidy-s i j ∙ ap (λ x. not (worthTwo x)) (same-fraction i j h k ne) ∙ sym (joined-fraction tidy-t (f i) (f j));
+    joined = λ i j h k ne. joined-fraction tidy-s i j ∙ ap (λ x. not (isTwo (edgeOf x))) (same-fraction i j h k ne) ∙ sym (joined-fraction tidy-t (f i) (f j));
   }
 
 -- ---- paths

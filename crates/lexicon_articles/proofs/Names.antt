@@ -18,7 +18,6 @@ use Rattle.group_names.specs.Named as naming
 use Rattle.group_names.specs.Names.{order}
 use Rattle.group_names.specs.declared.Group.{Group}
 use Rattle.group_names.specs.declared.Groups.{Groups}
-use Rattle.group_names.specs.declared.Name.{Name}
 use Rattle.group_names.proofs.Listed.{lists-short, entry-at, entries-apart, entry-of}
 use Rattle.group_names.proofs.Matching.{Partners, choose, matched-le}
 use Rattle.group_names.proofs.OneName.{one-name}

@@ -4,7 +4,7 @@
 use mathlib.Core.Bool.{Bool}
 use mathlib.Core.List.{List, [], _∷_, map}
 use mathlib.Core.Path.{_≡_, refl, sym, ap, _∙_, subst}
-use Prim.Native.Nat.{ℕ, zero, suc, _+_, _*_, _≤_, _<_}
+use Prim.Native.Nat.{ℕ, _+_, _*_, _≤_, _<_}
 use native.Mathlib.Omega.{arith}
 use lib.Dec.{ltb}
 use lib.ListN.{length, getD, take}
@@ -32,9 +32,7 @@ use Rattle.lent.specs.Outcomes.{Shows, told, fitted}
 use Rattle.lent.specs.Shown.{diagramLength, namesLength, outcome, flat, nodeNumbers, pairNumbers, numbersOf, groupNumbers, ofReading, ofGroups}
 use Rattle.lent.proofs.Copying.{flat-at}
 use Rattle.lent.proofs.Showing.{nodes-long, numbers-long, shown-told, shown-returned, shown-at}
-use Rattle.lexicon.specs.Reads.{Reads}
-use Rattle.lexicon.specs.declared.Reading.{Reading}
-use Rattle.lexicon_articles.specs.Articles.{edgeCount, nameAt, SameMultiset, SameNames}
+use Rattle.lexicon_articles.specs.Articles.{edgeCount, nameAt, SameNames}
 use Rattle.lexicon_articles.specs.Articles as articles
 use Rattle.lexicon_articles.proofs.EqualRecords as theorem
 use Rattle.lexicon_names.proofs.OneAnswer.{names-few, names-full}
@@ -44,7 +42,7 @@ use Rattle.parse.specs.declared.Read.{Read}
 use Rattle.parse.proofs.Outcomes.{accepted-few}
 use Rattle.lexicon_c.specs.Articles.{Called, edgesShown, nameShown, SameNamesForC, named, nameless, SameArticleForC}
 use Rattle.lexicon_c.specs.Calls.{FilesForC, ReadsForC, NamesForC}
-use Rattle.lexicon_c.proofs.Demand3.{Filed0, returned-0}
+use Rattle.lexicon_c.proofs.Demand3.{returned-0}
 
 -- ---- what `lexicon_read` tells and shows of an accepted text
 
@@ -113,13 +111,22 @@ module _ {wish : Bool} {text out : List ℕ} (c : Called) (names : NamesForC wis
   abbrev groups : Groups
   groups = names .groups
 
-  module _ (accepted : groups .answer ≡ said.Accepted) where
-    shown : ofGroups groups ≡ Shows (groups .count ∷ []) (padded 0 namesLength (flat groupNumbers (take (groups .count) (groups .at))))
-    unfolding outcome
-    shown = ap (λ z. outcome z (groups .count ∷ []) (padded 0 namesLength (flat groupNumbers (take (groups .count) (groups .at))))) accepted
+  abbrev components : List Group
+  components = take (groups .count) (groups .at)
 
-    fits : length (padded 0 namesLength (flat groupNumbers (take (groups .count) (groups .at)))) ≤ length out
-    fits = omega (arith, length-padded 0 namesLength (flat groupNumbers (take (groups .count) (groups .at))))
+  abbrev places : List ℕ
+  places = padded 0 namesLength (flat groupNumbers components)
+
+  places-long : length places ≡ namesLength
+  places-long = length-padded 0 namesLength (flat groupNumbers components)
+
+  module _ (accepted : groups .answer ≡ said.Accepted) where
+    shown : ofGroups groups ≡ Shows (groups .count ∷ []) places
+    unfolding outcome
+    shown = ap (λ z. outcome z (groups .count ∷ []) places) accepted
+
+    fits : length places ≤ length out
+    fits = omega (arith, places-long)
 
     names-returned : c .returned ≡ 0
     names-returned = shown-returned (names .lends) shown fits
@@ -132,11 +139,10 @@ module _ {wish : Bool} {text out : List ℕ} (c : Called) (names : NamesForC wis
     unfolding groupNumbers
     number-shown i k h l =
         let few = names-few (names .names) in
-        let xs = take (groups .count) (groups .at) in
-        let whole : length xs ≡ groups .count = length-take-le (groups .count) (groups .at) (omega (arith, names-full (names .names))) in
-        shown-at (names .lends) shown fits (4 * i + k) 0 (omega (arith, length-padded 0 namesLength (flat groupNumbers xs)))
-        ∙ getD-padded 0 0 namesLength (flat groupNumbers xs) (4 * i + k) (omega arith)
-        ∙ flat-at groupNumbers 4 (λ g. refl) xs i k blank 0 (omega arith) l
+        let whole : length components ≡ groups .count = length-take-le (groups .count) (groups .at) (omega (arith, names-full (names .names))) in
+        shown-at (names .lends) shown fits (4 * i + k) 0 (omega (arith, places-long))
+        ∙ getD-padded 0 0 namesLength (flat groupNumbers components) (4 * i + k) (omega arith)
+        ∙ flat-at groupNumbers 4 (λ g. refl) components i k blank 0 (omega arith) l
         ∙ ap (λ g. getD (groupNumbers g) k 0) (getD-take (groups .count) (groups .at) i blank h)
 
     name-shown : (i : ℕ) → i < groups .count → nameShown c i ≡ numbers (nameAt groups i)
