@@ -1,6 +1,6 @@
 //! Loops: drops that hang at their nodes, put where there is room when all else is in its place.
 
-use lexicon::{Cd, Edge, Node};
+use lexicon::{Cd, Edge, Node, StoredEdge};
 
 use super::{
     frames::{disc_clearance, Frame, Obstacle},
@@ -21,7 +21,7 @@ pub struct Loop {
 
 /// The loops of a text, each with the place of its node in the record.
 fn of_text(cd: &Cd, numbering: &[usize]) -> Vec<(usize, Edge)> {
-    let loops = cd.edges().into_iter().filter(|stored| stored.is_loop());
+    let loops = cd.edges().into_iter().filter(StoredEdge::is_loop);
     let mut loops: Vec<(usize, Edge)> = loops
         .filter_map(|stored| {
             let place = numbering.iter().position(|&node| node == stored.a)?;

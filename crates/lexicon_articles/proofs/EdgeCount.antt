@@ -79,8 +79,8 @@ tidy-count {n} (more {es} {s} w f) =
     new i j h =
         joins-other i j s
         (⊎-elim
-          (λ q. true≢false (sym h ∙ ap₂ (isJoined es) (sym (q .0)) (sym (q .1)) ∙ f .apart))
-          (λ q. true≢false (sym h ∙ joined-symmetric es i j ∙ ap₂ (isJoined es) (sym (q .0)) (sym (q .1)) ∙ f .apart)))
+        (λ q. true≢false (sym h ∙ ap₂ (isJoined es) (sym (q .0)) (sym (q .1)) ∙ f .apart))
+        (λ q. true≢false (sym h ∙ joined-symmetric es i j ∙ ap₂ (isJoined es) (sym (q .0)) (sym (q .1)) ∙ f .apart)))
 
 -- ---- of two diagrams
 
@@ -104,5 +104,5 @@ pub edges-answered : (cd : Cd) (ns : List Node) (es : List Stored) → cd ≡ cd
 edges-answered cd ns es held few w =
     rw (count-held cd ns es held, pairs-held cd ns es held)
     (pairs-local _ (isJoined es) (length ns)
-      (λ i j l h. ap (λ (p : Pair). ltb 0 (p .rank)) (loaded es i j none (omega arith) (omega arith)) ∙ rank-joined 1 es i j (omega arith))
+    (λ i j l h. ap (λ (p : Pair). ltb 0 (p .rank)) (loaded es i j none (omega arith) (omega arith)) ∙ rank-joined 1 es i j (omega arith))
     ∙ tidy-count w)
