@@ -82,9 +82,9 @@ size_t lexicon_read(const uint8_t *text, size_t text_len, size_t wish, uint64_t 
  *   - Where two texts have the same record, numbering[i] of the one corresponds to numbering[i] of the other, for each place i: a renumbering that sends one
  *     to the other carries the first text's diagram onto the second's, kinds, lengths and fractions alike. Where a figure has symmetries, other
  *     renumberings do so too.
- *   - Where two texts have the same record, what an article tells of them is the same, whichever of them is stored: of both lexicon_read tells the same for
- *     minimal and shows as many pairs of different nodes with a rank, and lexicon_names tells the same names and orders, each as often, though perhaps in
- *     another order, or refuses both with 21, whose nodes may differ. Their loops may differ, and so may the stored edges that lexicon_read tells.
+ *   - Where two texts have the same record, an article tells the same of both, whichever is stored. Given each text with its wish, lexicon_read tells the same
+ *     for minimal and shows as many pairs of different nodes with a rank, and lexicon_names tells the same names and orders, each as often, though perhaps
+ *     in another order, or refuses both with 21, whose nodes may differ. Loops may differ, and with them the number of stored edges that lexicon_read tells.
  * Refuses with 1 to 11, 23 and 12. The more nodes are alike, the longer it takes, here and in lexicon_read_record: nine different ones about 1 us, nine alike in
  * a chain about 25 us, nine alike that nothing joins about 7 ms. */
 size_t lexicon_write_record(const uint8_t *text, size_t text_len, size_t wish, uint8_t *out, size_t out_len, size_t numbering[LEXICON_LIMIT],

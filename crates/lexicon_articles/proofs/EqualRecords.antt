@@ -42,8 +42,8 @@ module _ (v w : Bool) (s t : List ℕ) (ns ms : List Node) (es fs : List Stored)
     (long-a : recordLength limit ≤ length a) (long-b : recordLength limit ≤ length b)
     (files-s : Files v s a a′ x) (files-t : Files w t b b′ y)
     (equal : take (recordLength limit) a′ ≡ take (recordLength limit) b′) where
-  both : Carried ns es ms fs
-  both =
+  diagrams-carried : Carried ns es ms fs
+  diagrams-carried =
       let (f, c) = no-false-match v w s t ns ms es fs a a′ b b′ x y accepted-s accepted-t long-a long-b files-s files-t equal in
       carried ns ms es fs f (accepted-kept v s ns es accepted-s) (accepted-kept w t ms fs accepted-t) (accepted-tidy v s ns es accepted-s) (accepted-tidy w t ms fs accepted-t) c
 
@@ -52,17 +52,17 @@ module _ (v w : Bool) (s t : List ℕ) (ns ms : List Node) (es fs : List Stored)
   same-mark {p} {q} rs rt =
       let own : Marks (Accepted ns es) (p .minimal) = subst (λ z. Marks z (p .minimal)) accepted-s (rs .minimal) in
       let others : Marks (Accepted ms fs) (q .minimal) = subst (λ z. Marks z (q .minimal)) accepted-t (rt .minimal) in
-      marked-once (Accepted ms fs) (p .minimal) (q .minimal) (decides-same (minimal-carried both) (minimal-carried (turned both)) own) others
+      marked-once (Accepted ms fs) (p .minimal) (q .minimal) (decides-same (minimal-carried diagrams-carried) (minimal-carried (turned diagrams-carried)) own) others
 
   -- "the same number of stored edges between different nodes"
   pub same-edges : length (withoutLoops es) ≡ length (withoutLoops fs)
-  same-edges = edges-carried both (accepted-tidy v s ns es accepted-s) (accepted-tidy w t ms fs accepted-t)
+  same-edges = edges-carried diagrams-carried (accepted-tidy v s ns es accepted-s) (accepted-tidy w t ms fs accepted-t)
 
   -- "the same names and orders as a multiset, unless both are refused with 21"
   pub same-names : {r g : Groups} → NamesText v s r → NamesText w t g → SameNames r g
   unfolding diagram
   same-names rs rt =
-      names.same-names both (accepted-few v s ns es accepted-s) (accepted-few w t ms fs accepted-t)
+      names.same-names diagrams-carried (accepted-few v s ns es accepted-s) (accepted-few w t ms fs accepted-t)
       (λ i j h k ne. accepted-diagram w t ms fs accepted-t .edges i j h k ne .den-pos) (told-of rs accepted-s) (told-of rt accepted-t)
 
   -- EQUAL RECORDS, EQUAL ARTICLES

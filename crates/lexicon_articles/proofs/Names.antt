@@ -100,7 +100,7 @@ module _ {ns ms : List Node} {es fs : List Stored} (c : Carried ns es ms fs) (fe
     (positive : (u v : ℕ) → u < length ms → v < length ms → u ≢ v → zero < joint fs u v .den) where
   same-multiset : {gs hs : List Group} → Lists (length ns) es (length ns) gs → Lists (length ms) fs (length ms) hs
       → SameMultiset (length gs) (nameAt (listing gs)) (length hs) (nameAt (listing hs))
-  same-multiset {gs} {hs} ls lt = record { size = size; places = g; numbering = record { within = λ i h. omega (arith, size, right i h .0); apart = apart′ }; same = same }
+  same-multiset {gs} {hs} ls lt = record { size = size; places = g; numbering = record { within = λ i h. omega (arith, size, met i h .0); apart = places-apart }; same = same }
     where
       size : length gs ≡ length hs
       size = le-antisymm (no-more c ls lt) (no-more (turned c) lt ls)
@@ -108,18 +108,18 @@ module _ {ns ms : List Node} {es fs : List Stored} (c : Carried ns es ms fs) (fe
       g : ℕ → ℕ
       g = choose (Meets c ls lt) (each c ls lt) .0
 
-      right : (i : ℕ) → i < length gs → (g i < length hs) × Meets c ls lt i (g i)
-      right = choose (Meets c ls lt) (each c ls lt) .1
+      met : (i : ℕ) → i < length gs → (g i < length hs) × Meets c ls lt i (g i)
+      met = choose (Meets c ls lt) (each c ls lt) .1
 
-      apart′ : (i j : ℕ) → i < length gs → j < length gs → g i ≡ g j → i ≡ j
-      apart′ i j h k e = apart c ls lt i j (g i) h k (right i h .1) (subst (Meets c ls lt j) (sym e) (right j k .1))
+      places-apart : (i j : ℕ) → i < length gs → j < length gs → g i ≡ g j → i ≡ j
+      places-apart i j h k e = apart c ls lt i j (g i) h k (met i h .1) (subst (Meets c ls lt j) (sym e) (met j k .1))
 
       shown : (l : List Group) (i : ℕ) → i < limit → nameAt (listing l) i ≡ (getD l i blank .name, getD l i blank .order)
       shown l i h = ap (λ (x : Group). (x .name, x .order)) (getD-padded blank blank limit l i h)
 
       same : (i : ℕ) → i < length gs → nameAt (listing gs) i ≡ nameAt (listing hs) (g i)
       same i h =
-          let a = right i h in
+          let a = met i h in
           let name = same-name c ls lt positive i (g i) h (a .0) (a .1) in
           let order = entry-at ls i h .right ∙ ap order name ∙ sym (entry-at lt (g i) (a .0) .right) in
           shown gs i (omega (arith, lists-short ls)) ∙ ap₂ (λ x y. (x, y)) name order ∙ sym (shown hs (g i) (omega (arith, lists-short lt)))
