@@ -13,7 +13,8 @@ use Rattle.parse.specs.declared.Answer.the-variants as said
 use Rattle.parse.specs.declared.Read.{Read}
 use Rattle.parse.proofs.Outcomes.{accepted-few}
 pub use Rattle.parse.proofs.Answered.{apart}
-use Rattle.lexicon.specs.Reads.{Marks}
+use Rattle.lexicon.specs.Reads.{Reads, Marks}
+use Rattle.lexicon.specs.declared.Reading as lexicon
 
 answer-few : (x : Reading) (wish : Bool) (s : List ℕ) → read wish s ≡ x → answer x .cd .count ≤ limit
 unfolding answer cdOf
@@ -47,6 +48,11 @@ pub accepts : (x : Reading) (r : Read) → r ≡ answer x → r .answer ≡ said
 unfolding answer
 accepts (Accepted ns es) r h a = record { ns = ns; es = es; is = refl; held = ap (λ (y : Read). y .cd) h }
 accepts (Refused e) r h a = absurd (apart e (sym a ∙ ap (λ (y : Read). y .answer) h))
+
+-- and the answer of an accepted text
+pub answers : {wish : Bool} {text : List ℕ} {ns : List Node} {es : List Stored} {r : lexicon.Reading} → read wish text ≡ Accepted ns es → Reads wish text r → r .read ≡ record { answer = said.Accepted; cd = cdOf ns es }
+unfolding answer
+answers h k = k .answer ∙ ap answer h
 
 pub alike : (d e : CdError) → said.Refused d ≡ said.Refused e → d ≡ e
 alike d e h = cc

@@ -2,7 +2,7 @@
 -- an edge joins them, since in tidy edges one does exactly where the fraction is not 2; so paths, along which a loop is no step, with them components, their ringed nodes
 -- and the names that fit them. It leads back as well. Assumes nothing.
 use mathlib.Core.Bool.{Bool, true, false, not, _||_}
-use mathlib.Core.List.{List, [], _∷_, _++_}
+use mathlib.Core.List.{List}
 use mathlib.Core.Logic.{_≢_}
 use mathlib.Core.Path.{_≡_, refl, sym, ap, ap₂, _∙_, subst}
 use Prim.Native.Nat.{ℕ, _<_}
@@ -28,17 +28,9 @@ use Rattle.lexicon.proofs.Tidy.{Tidy, none, more}
 use Rattle.minimal.proofs.Paths.{path-join, path-turned, path-in}
 use Rattle.tables.specs.Diagrams.{filed, two, joint, diagram}
 use Rattle.tables.specs.Tables.{IsKept}
+use Rattle.tables.proofs.Joints.{joint-append}
 
 -- ---- joined exactly where the fraction is not 2
-
-joint-append : (es : List Stored) (s : Stored) (i j : ℕ) → joint (es ++ (s ∷ [])) i j ≡ pick (isJoined es i j) (joint es i j) (joint (s ∷ []) i j)
-unfolding joint isJoined
-joint-append [] s i j = refl
-joint-append (e ∷ es) s i j = rw (joint-append es s i j) (go (joins i j e))
-  where
-    go : (b : Bool) → pick b (fraction (e .edge)) (pick (isJoined es i j) (joint es i j) (joint (s ∷ []) i j)) ≡ pick (b || isJoined es i j) (pick b (fraction (e .edge)) (joint es i j)) (joint (s ∷ []) i j)
-    go true = refl
-    go false = refl
 
 pub joined-fraction : {n : ℕ} {es : List Stored} → Tidy n es → (i j : ℕ) → isJoined es i j ≡ not (isTwo (edgeOf (joint es i j)))
 unfolding isJoined joint isTwo

@@ -6,7 +6,7 @@ use mathlib.Core.List.{List}
 use mathlib.Core.Path.{_≡_, sym, ap, _∙_, subst}
 use Prim.Native.Nat.{ℕ, _≤_}
 use lib.ListN.{length, take}
-use Rattle.cd.specs.Diagrams.{Stored, limit, cdOf}
+use Rattle.cd.specs.Diagrams.{Stored, limit}
 use Rattle.cd.specs.declared.Node.{Node}
 use Rattle.cd.proofs.Decided.{decides-same}
 use Rattle.filing.specs.Records.{recordLength}
@@ -15,12 +15,13 @@ use Rattle.lexicon.specs.Files.{Files}
 use Rattle.lexicon.specs.Reads.{Reads, Marks}
 use Rattle.lexicon.specs.declared.Filed.{Filed}
 use Rattle.lexicon.specs.declared.Reading.{Reading}
+use Rattle.lexicon.proofs.Answers.{answers}
 use Rattle.lexicon.proofs.Demand3.{no-false-match}
 use Rattle.lexicon.proofs.Fileable.{accepted-diagram, accepted-kept, accepted-tidy}
 use Rattle.lexicon.proofs.Marks.{marked-once}
 use Rattle.lexicon_names.specs.NamesText.{NamesText}
 use Rattle.lexicon_names.proofs.OneAnswer.{told-of}
-use Rattle.parse.specs.Reading.{Accepted, read, answer}
+use Rattle.parse.specs.Reading.{Accepted, read}
 use Rattle.parse.specs.declared.Read.{Read}
 use Rattle.parse.proofs.Outcomes.{accepted-few}
 use Rattle.tables.specs.Diagrams.{diagram}
@@ -31,10 +32,8 @@ use Rattle.lexicon_articles.proofs.Names as names
 
 -- the count of an answered diagram is that of the stored edges
 pub edges-counted : {wish : Bool} {text : List ℕ} {ns : List Node} {es : List Stored} {r : Reading} → read wish text ≡ Accepted ns es → Reads wish text r → edgeCount (r .read .cd) ≡ length (withoutLoops es)
-unfolding answer
 edges-counted {wish} {text} {ns} {es} {r} h k =
-    let held : r .read .cd ≡ cdOf ns es = ap (λ (x : Read). x .cd) (k .answer ∙ ap answer h) in
-    edges-answered (r .read .cd) ns es held (accepted-few wish text ns es h) (accepted-tidy wish text ns es h)
+    edges-answered (r .read .cd) ns es (ap (λ (x : Read). x .cd) (answers h k)) (accepted-few wish text ns es h) (accepted-tidy wish text ns es h)
 
 -- two wishes, and two texts that are accepted so; two buffers that 12 does not refuse, before and after, whose records are the same
 module _ (v w : Bool) (s t : List ℕ) (ns ms : List Node) (es fs : List Stored) (a a′ b b′ : List ℕ) (x y : Filed)

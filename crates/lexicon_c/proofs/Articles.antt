@@ -32,11 +32,12 @@ use Rattle.lent.specs.Outcomes.{Shows, told, fitted}
 use Rattle.lent.specs.Shown.{diagramLength, namesLength, outcome, flat, nodeNumbers, pairNumbers, numbersOf, groupNumbers, ofReading, ofGroups}
 use Rattle.lent.proofs.Copying.{flat-at}
 use Rattle.lent.proofs.Showing.{nodes-long, numbers-long, shown-told, shown-returned, shown-at}
+use Rattle.lexicon.proofs.Answers.{answers}
 use Rattle.lexicon_articles.specs.Articles.{edgeCount, nameAt, SameNames}
 use Rattle.lexicon_articles.specs.Articles as articles
 use Rattle.lexicon_articles.proofs.EqualRecords as theorem
 use Rattle.lexicon_names.proofs.OneAnswer.{names-few, names-full}
-use Rattle.parse.specs.Reading.{Accepted, read, answer}
+use Rattle.parse.specs.Reading.{Accepted, read}
 use Rattle.parse.specs.declared.Answer.the-variants as said
 use Rattle.parse.specs.declared.Read.{Read}
 use Rattle.parse.proofs.Outcomes.{accepted-few}
@@ -51,15 +52,11 @@ module _ {wish : Bool} {text out : List ℕ} {ns : List Node} {es : List Stored}
   abbrev cd : Cd
   cd = reads .reading .read .cd
 
-  shows : reads .reading .read ≡ record { answer = said.Accepted; cd = cdOf ns es }
-  unfolding answer
-  shows = reads .reads .answer ∙ ap answer accepted
-
   says : reads .reading .read .answer ≡ said.Accepted
-  says = ap (λ (r : Read). r .answer) shows
+  says = ap (λ (r : Read). r .answer) (answers accepted (reads .reads))
 
   held : cd ≡ cdOf ns es
-  held = ap (λ (r : Read). r .cd) shows
+  held = ap (λ (r : Read). r .cd) (answers accepted (reads .reads))
 
   nodes-full : length (cd .nodes) ≡ limit
   nodes-full = ap length (nodes-held cd ns es held) ∙ length-padded (place Unringed) limit (map place ns)
