@@ -3,9 +3,10 @@
 use mathlib.Core.Bool.{Bool, true, false, _||_}
 use mathlib.Core.Logic.{_≢_}
 use mathlib.Core.Path.{_≡_, refl, sym, ap, ap₂, _∙_}
-use Prim.Native.Nat.{ℕ, zero, suc, _+_, _-_, _*_, _<_}
+use Prim.Native.Nat.{ℕ, zero, suc, _+_, _-_, _*_, _≤_, _<_}
 use native.Mathlib.Decide.{ℕ-discrete}
 use native.Mathlib.Nat.{zero-add, suc-add, le-refl, not-suc-le-zero}
+use native.Mathlib.Numerals.{add-one}
 use native.Mathlib.Omega.{arith}
 use Rattle.filing.specs.Counts.{one, sum, count, pairCount}
 use Rattle.filing.specs.Numberings.{Numbering}
@@ -37,6 +38,22 @@ sum-alone f (suc n) a h e =
       | yes q ↦ omega (arith, sum-none f n (λ i l. e i (omega arith) (λ z. omega arith)), ap f q)
       | no q ↦ omega (arith, sum-alone f n a (omega arith) (λ i l. e i (omega arith)), e n (le-refl (suc n)) q)
     ]
+
+-- ---- counts
+
+one-few : (b : Bool) → one b ≤ 1
+one-few true = omega arith
+one-few false = omega arith
+
+pub count-few : (t : ℕ → Bool) (n : ℕ) → count t n ≤ n
+unfolding sum
+count-few t zero = omega arith
+count-few t (suc n) = omega (arith, count-few t n, one-few (t n))
+
+pub count-all : (t : ℕ → Bool) (n : ℕ) → ((i : ℕ) → i < n → t i ≡ true) → count t n ≡ n
+unfolding sum
+count-all t zero h = refl
+count-all t (suc n) h = ap₂ (λ k b. k + one b) (count-all t n (λ i k. h i (omega arith))) (h n (le-refl (suc n))) ∙ add-one n
 
 -- ---- one taken out
 

@@ -3,9 +3,10 @@ use mathlib.Core.List.{List, [], _∷_, _++_, append-assoc}
 use mathlib.Core.Path.{_≡_, refl, sym, ap, _∙_}
 use Prim.Native.Nat.{ℕ, suc, _+_, _-_, _*_, _≤_, _<_}
 use native.Mathlib.Nat.{zero-add}
+use native.Mathlib.Numerals.{add-one}
 use native.Mathlib.Omega.{arith}
-use lib.ListN.{length, take, drop, set, replicate, length-replicate, replicate-append-replicate}
-use lib.Seq.{take-at, drop-at, drop-drop, sets, sets-eq}
+use lib.ListN.{length, getD, take, drop, set, replicate, length-replicate, replicate-append-replicate}
+use lib.Seq.{length-take-le, take-at, take-suc, drop-at, drop-drop, sets, sets-eq}
 use Rattle.filing.specs.Bytes.{blocks, filled, written}
 use Rattle.filing.proofs.Bytes.{length-blocks, length-filled, length-written, written-front, written-byte, written-then, written-block}
 
@@ -21,6 +22,16 @@ byte-then k b x l h = rw (written-byte k b l h) (written-then k (b ∷ []) x l (
 pub block-then : (k w : ℕ) (g : ℕ → List ℕ) (i : ℕ) (l : List ℕ) → ((j : ℕ) → j < i → length (g j) ≡ w) → k + w * i ≤ length l
     → written (k + w * i) (g i) (written k (blocks g i) l) ≡ written k (blocks g (i + 1)) l
 block-then k w g i l e h = let f = length-blocks g w i e in rw f at (written-block k g i l (rw f h))
+
+-- one byte more of a list
+pub put-more : (at : ℕ) (from l : List ℕ) (i : ℕ) → at + length from ≤ length l → i < length from
+    → set (written at (take i from) l) (at + i) (getD from i 0) ≡ written at (take (i + 1) from) l
+put-more at from l i h k =
+    let e : length (take i from) ≡ i = length-take-le i from (omega arith) in
+    let f = length-written at (take i from) l (omega arith) in
+    written-byte (at + i) (getD from i 0) (written at (take i from) l) (omega arith)
+    ∙ rw e at (written-then at (take i from) (getD from i 0 ∷ []) l (omega arith))
+    ∙ ap (λ z. written at z l) (sym (take-suc from i 0 k) ∙ ap (λ n. take n from) (sym (add-one i)))
 
 -- ---- zeros written over
 

@@ -9,7 +9,7 @@ ghost use lib.ListN.{length, drop, replicate};
 ghost use Rattle.cd.specs.Diagrams.{Stored, limit, cdOf};
 ghost use Rattle.cd.specs.Minimal.{Decides};
 ghost use Rattle.cd.specs.declared.Node.{Node};
-ghost use Rattle.filing.specs.Bytes.{bytes, written};
+ghost use Rattle.filing.specs.Bytes.{_≼_, bytes, written};
 ghost use Rattle.filing.specs.Numberings.{Numbering, at};
 ghost use Rattle.filing.specs.Records.{nodesLength, recordLength};
 ghost use Rattle.tables.specs.Diagrams.{diagram};
@@ -123,6 +123,35 @@ pub fn same(a: &[u8], b: &[u8]) -> bool
         i += 1;
     }
     true
+}
+
+// Whether a is no greater than b: the first byte that differs decides.
+pub fn no_greater(a: &[u8], b: &[u8]) -> bool
+    ensures { λ r. ⌜ Decides (now (a .entry) ≼ now (b .entry)) r ⌝ }
+{
+    let mut i = 0;
+    while i < a.len() {
+        if i == b.len() {
+            return false;
+        }
+        if a[i] != b[i] {
+            return a[i] < b[i];
+        }
+        i += 1;
+    }
+    true
+}
+
+// Stores bytes from `at` on.
+pub fn put(out: &mut [u8], at: usize, from: &[u8])
+    requires { ⌜ at + length (now from) ≤ length (now out) ⌝ }
+    ensures { λ _. ⌜ now (out .exit) ≡ written at (now (from .entry)) (now (out .entry)) ⌝ }
+{
+    let mut i = 0;
+    while i < from.len() {
+        out[at + i] = from[i];
+        i += 1;
+    }
 }
 
 // Whether bytes are the layout under a numbering.

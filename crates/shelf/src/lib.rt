@@ -8,7 +8,6 @@ ghost use Prim.Native.Nat.{_+_, _*_, _≤_};
 ghost use lib.ListN.{length, take, drop};
 ghost use Rattle.cd.specs.Diagrams.{limit};
 ghost use Rattle.cd.specs.Minimal.{Decides};
-ghost use Rattle.filing.specs.Bytes.{_≼_, written};
 ghost use Rattle.filing.specs.Readable.{Readable};
 ghost use Rattle.filing.specs.Records.{recordLength};
 ghost use Rattle.shelf.specs.Adds.{notAdded, addedLength, Adds};
@@ -16,37 +15,6 @@ ghost use Rattle.shelf.specs.Bisects.{Bisection, Bisects};
 ghost use Rattle.shelf.specs.Checks.{notShelf, Checks};
 ghost use Rattle.shelf.specs.Finds.{notFound, Finds};
 ghost use Rattle.shelf.specs.Shelves.{Greater, Right, Present};
-
-// ---- bytes
-
-// Whether a is no greater than b: the first byte that differs decides.
-fn no_greater(a: &[u8], b: &[u8]) -> bool
-    ensures { λ r. ⌜ Decides (now (a .entry) ≼ now (b .entry)) r ⌝ }
-{
-    let mut i = 0;
-    while i < a.len() {
-        if i == b.len() {
-            return false;
-        }
-        if a[i] != b[i] {
-            return a[i] < b[i];
-        }
-        i += 1;
-    }
-    true
-}
-
-// Stores bytes from `at` on.
-fn put(out: &mut [u8], at: usize, from: &[u8])
-    requires { ⌜ at + length (now from) ≤ length (now out) ⌝ }
-    ensures { λ _. ⌜ now (out .exit) ≡ written at (now (from .entry)) (now (out .entry)) ⌝ }
-{
-    let mut i = 0;
-    while i < from.len() {
-        out[at + i] = from[i];
-        i += 1;
-    }
-}
 
 // ---- the check
 
@@ -61,7 +29,7 @@ fn rises(file: &[u8], i: usize) -> bool
     let at = RECORD * i;
     let end = at + RECORD;
     let before = at - RECORD;
-    !no_greater(&file[at..end], &file[before..at])
+    !records::no_greater(&file[at..end], &file[before..at])
 }
 
 // Whether bytes can be read as a record.
@@ -154,7 +122,7 @@ fn place_for(file: &[u8], n: usize, x: &[u8]) -> usize
         let middle = low + (high - low) / 2;
         let at = RECORD * middle;
         let end = at + RECORD;
-        if no_greater(x, &file[at..end]) {
+        if records::no_greater(x, &file[at..end]) {
             high = middle;
         } else {
             low = middle + 1;
@@ -259,9 +227,9 @@ fn insert(file: &[u8], at: usize, bytes: &[u8], out: &mut [u8])
     ensures { λ _. ⌜ now (out .exit) ≡ (take at (now (file .entry)) ++ (now (bytes .entry) ++ drop at (now (file .entry)))) ++ drop (length (now (file .entry)) + length (now (bytes .entry))) (now (out .entry)) ⌝ }
 {
     let end = file.len();
-    put(out, 0, &file[..at]);
-    put(out, at, bytes);
-    put(out, at + bytes.len(), &file[at..end]);
+    records::put(out, 0, &file[..at]);
+    records::put(out, at, bytes);
+    records::put(out, at + bytes.len(), &file[at..end]);
 }
 
 // The file with the record added, in the first bytes of the buffer.

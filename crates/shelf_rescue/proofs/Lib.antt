@@ -1,0 +1,4 @@
+-- The laws of a rescue, and what a librarian may rely on.
+pub mod Marks
+pub mod Copies
+mod Saving
