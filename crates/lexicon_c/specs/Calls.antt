@@ -1,4 +1,5 @@
--- The promises of the calls whose promises in Rattle are more than an equation: some answer that `lexicon`, `lexicon_names` or `shelf` promises is what is told and shown.
+-- The promises of the calls whose promises in Rattle are more than an equation: some answer that `lexicon`, `lexicon_names`, `shelf` or `shelf_rescue` promises is what is
+-- told and shown.
 use mathlib.Core.Bool.{Bool, not}
 use mathlib.Core.List.{List, [], _∷_}
 use mathlib.Core.Path.{_≡_}
@@ -24,6 +25,8 @@ use Rattle.shelf.specs.Finds.{Finds}
 use Rattle.shelf.specs.declared.Added.{Added}
 use Rattle.shelf.specs.declared.Checked.{Checked}
 use Rattle.shelf.specs.declared.Found.{Found}
+use Rattle.shelf_rescue.specs.Rescues.{Rescues}
+use Rattle.shelf_rescue.specs.declared.Rescued.{Rescued}
 use Rattle.lent.specs.Outcomes.{Lends, told}
 use Rattle.lent.specs.Shown.{outcome, ofReading, ofRecord, ofGroups}
 
@@ -90,3 +93,9 @@ pub record AddsForC (file bytes out out′ answer′ : List ℕ) (r : ℕ) : Typ
   pub added : Added
   pub adds : Adds limit file bytes out out′ added
   pub tells : Tells (added .answer) (added .place ∷ []) answer′ r
+
+-- the places kept, and the length of the tail; `Rescues` says what the two buffers hold afterwards
+pub record RescuesForC (file out marks out′ marks′ answer′ : List ℕ) (r : ℕ) : Type 0 where
+  pub rescued : Rescued
+  pub rescues : Rescues limit file out marks out′ marks′ rescued
+  pub tells : Tells (rescued .answer) (rescued .kept ∷ rescued .tail ∷ []) answer′ r

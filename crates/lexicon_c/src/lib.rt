@@ -9,7 +9,7 @@ ghost use Rattle.lent.specs.Shown.{ofSquare, ofGenerated, ofReflected};
 ghost use Rattle.geometry.specs.Points.{generatorOfText, wallGeneratorOfText, reflectionsOfText};
 ghost use Rattle.geometry.specs.Squares.{matrixOf, mirrorsOf, wallsOf, familyMatrixOf, familyMirrorsOf, familyWallsOf};
 ghost use Rattle.parse.specs.Reading.{read};
-ghost use Rattle.lexicon_c.specs.Calls.{wished, ReadsForC, FilesForC, ReadsRecordForC, NamesForC, Tells, foundNumbers, ChecksForC, FindsForC, BisectsForC, AddsForC};
+ghost use Rattle.lexicon_c.specs.Calls.{wished, ReadsForC, FilesForC, ReadsRecordForC, NamesForC, Tells, foundNumbers, ChecksForC, FindsForC, BisectsForC, AddsForC, RescuesForC};
 
 #[no_mangle]
 pub extern "C" fn lexicon_read(
@@ -243,6 +243,24 @@ pub extern "C" fn lexicon_shelf_add(
     let a = f.answer;
     match a {
         Answer::Accepted => lent::tell([0, f.place, 0, 0], answer),
+        Answer::Refused(e) => lent::refuse(e, answer),
+    }
+}
+
+// Tells the places kept and the length of the tail.
+#[no_mangle]
+pub extern "C" fn lexicon_shelf_rescue(
+    file: &[u8],
+    out: &mut [u8],
+    marks: &mut [u8],
+    answer: &mut [usize; ANSWER],
+) -> usize
+    ensures { λ r. ⌜ RescuesForC (now (file .entry)) (now (out .entry)) (now (marks .entry)) (now (out .exit)) (now (marks .exit)) (now (answer .exit)) r ⌝ }
+{
+    let s = shelf_rescue::rescue(file, out, marks);
+    let a = s.answer;
+    match a {
+        Answer::Accepted => lent::tell([0, s.kept, s.tail, 0], answer),
         Answer::Refused(e) => lent::refuse(e, answer),
     }
 }
