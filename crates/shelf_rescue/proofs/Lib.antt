@@ -2,3 +2,5 @@
 pub mod Marks
 pub mod Copies
 mod Saving
+pub mod Once
+pub mod Librarian
