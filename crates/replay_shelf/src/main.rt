@@ -1,5 +1,6 @@
 // Answers each line of its input, which spells a file, a record and the length of a buffer, with what the calls on shelf files answer
-// to them, and with a digest of the buffer after the record was added. oracle/shelf.py has the form of lines.
+// to them, and with a digest of the buffer after the record was added; or a file and the lengths of two buffers, with what the rescue of the
+// file answers, and with digests of both buffers. oracle/shelf.py has the form of lines.
 use parse::Answer;
 use records::RECORD;
 use shelf::Added;
@@ -90,20 +91,28 @@ fn flag(b: bool) -> u64 {
     if b { 1 } else { 0 }
 }
 
+// Two numbers of an answer.
+fn put_two(out: &mut [u8], at: usize, a: Answer, x: u64, y: u64) -> usize
+    requires { ⌜ at + 128 ≤ length (now out) ⌝ }
+    ensures { λ r. ⌜ r ≤ at + 128 ⌝ }
+{
+    let mut to = lines::spelled::put_outcome(out, at, a);
+    match a {
+        Answer::Accepted => {
+            to = lines::put_number(out, to, b' ', x);
+            lines::put_number(out, to, b' ', y)
+        }
+        Answer::Refused(_) => to,
+    }
+}
+
 // Whether a record is there, and its place.
 fn put_found(out: &mut [u8], at: usize, f: Found) -> usize
     requires { ⌜ at + 128 ≤ length (now out) ⌝ }
     ensures { λ r. ⌜ r ≤ at + 128 ⌝ }
 {
     let a = f.answer;
-    let mut to = lines::spelled::put_outcome(out, at, a);
-    match a {
-        Answer::Accepted => {
-            to = lines::put_number(out, to, b' ', flag(f.present));
-            lines::put_number(out, to, b' ', f.place as u64)
-        }
-        Answer::Refused(_) => to,
-    }
+    put_two(out, at, a, flag(f.present), f.place as u64)
 }
 
 // The place of the record that was added.
@@ -193,10 +202,43 @@ fn answer(s: &[u8], out: &mut [u8], at: usize) -> usize
     answered(&file[0..n], s, end + 1, out, at)
 }
 
+// ---- a rescue
+
+// The places kept, and the length of the tail: the digests are of the whole buffers, of which the call is lent the first n and the first k bytes.
+fn rescued(file: &[u8], n: usize, k: usize, out: &mut [u8], at: usize) -> usize
+    requires { ⌜ (n ≤ 4096) × (k ≤ 4096) × (at + 146 ≤ length (now out)) ⌝ }
+    ensures { λ r. ⌜ r ≤ at + 146 ⌝ }
+{
+    let mut buffer = filled(UNWRITTEN);
+    let mut marks = filled(UNWRITTEN);
+    let r = shelf_rescue::rescue(file, &mut buffer[0..n], &mut marks[0..k]);
+    let a = r.answer;
+    let mut to = put_two(out, at, a, r.kept as u64, r.tail as u64);
+    to = lines::spelled::put_digest(out, to, &buffer);
+    lines::spelled::put_digest(out, to, &marks)
+}
+
+// FILE>LLL>LLL, where the file ends at `end`.
+fn rescue(s: &[u8], end: usize, out: &mut [u8], at: usize) -> usize
+    requires { ⌜ (end < length (now s)) × (at + 146 ≤ length (now out)) ⌝ }
+    ensures { λ r. ⌜ r ≤ at + 146 ⌝ }
+{
+    let mut file = filled(0);
+    let n = spell(&s[0..end], &mut file);
+    let room = length_behind(s, end, 0);
+    let next = lines::spelled::until(s, end + 1, b'>');
+    rescued(&file[0..n], room, length_behind(s, next, 0), out, at)
+}
+
 fn line(s: &[u8], out: &mut [u8], at: usize) -> usize
     requires { ⌜ at + 483 ≤ length (now out) ⌝ }
     ensures { λ r. ⌜ r ≤ at + 483 ⌝ }
 {
+    let end = lines::spelled::until(s, 0, b'>');
+    if end < s.len() {
+        let to = rescue(s, end, out, at);
+        return lines::put(out, to, b'\n');
+    }
     let to = answer(s, out, at);
     lines::put(out, to, b'\n')
 }
