@@ -1,12 +1,13 @@
 """Shelf files checked, searched and added to, from the words of ticket K1 and of K5's 22 alone, and what the program `replay_shelf`
-answers to each line of its input.
+answers to each line of its input. Ticket K12's rescue is rescue.py's.
 
-`shelf.py`        the two ways to each answer agree, and what is due after adding holds; crates/replay_shelf holds the lines of
-                  shelf_corpus.py, and as its answers the model's
+`shelf.py`        the two ways to each answer agree, and what is due after adding and after a rescue holds; crates/replay_shelf holds the
+                  lines of shelf_corpus.py, those of rescue_corpus.py behind them, and as its answers the models'
 `shelf.py write`  stores them
 
-A line spells a file, a record and the length of a buffer, and is answered with what all four calls tell. OOO, VV, LLL and DIGEST are
-lower-case hexadecimal, other numbers decimal. Texts are read with ticket K6's wish.
+A line spells a file, a record and the length of a buffer, and is answered with what four calls tell; or it spells a file and the lengths of
+two buffers, and is answered with what rescue tells. OOO, VV, LLL and DIGEST are lower-case hexadecimal, other numbers decimal. Texts are
+read with ticket K6's wish.
 
     FILE|RECORD|LLL          FILE and RECORD are SPELLED or SPELLED#LLL: cut off at that length, or followed by zeros up to it
     SPELLED                  nothing, or TEXT or TEXT!OOOVV.., one or more with commas between them: records of texts, each after its byte
@@ -15,6 +16,9 @@ lower-case hexadecimal, other numbers decimal. Texts are read with ticket K6's w
     CHECK                    ok PLACES
     FIND, BISECT             ok 1 PLACE, where the record is; ok 0 PLACE, where it would stand
     ADD                      ok PLACE DIGEST: the call is lent the first LLL of 4,096 bytes a5, and the digest is of all of them
+
+    FILE>LLL>LLL             of the second buffer and of the third the call is lent the first LLL of 4,096 bytes a5
+    RESCUE                   ok KEPT TAIL DIGEST DIGEST, or no 12 DIGEST DIGEST: of all bytes of the second, and of the third
 
 Exit status: 0 nothing differs, 1 something does.
 """
@@ -238,7 +242,8 @@ def after_adding(line):
 # ---- the comparison
 
 def main(mode="check"):
-    import shelf_corpus                                                     # imports this file
+    import rescue                                                           # imports this file
+    import shelf_corpus                                                     # likewise
 
     tally = collections.Counter(differ=0)
     lines = shelf_corpus.corpus()
@@ -253,7 +258,8 @@ def main(mode="check"):
         for what, is_so, due in after_adding(line):
             compare(tally, "things due after adding", (line, what), is_so, due)
 
-    stored.settle(STORED, mode, list(lines), answers, tally)
+    rescued, told = rescue.compared(tally)
+    stored.settle(STORED, mode, [*lines, *rescued], answers + told, tally)
     stored.close(tally)
 
 
