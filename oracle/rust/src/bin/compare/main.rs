@@ -3,7 +3,7 @@
 //!
 //! * `compare texts SEED COUNT`: fixed texts, COUNT by chance, and all families, beside the Rust (beside.rs);
 //! * `compare pairs SEED COUNT`: COUNT figures, their records and articles (pairs.rs);
-//! * `compare shelves SEED COUNT`: COUNT shelf files and records to be found in them and added (shelves.rs);
+//! * `compare shelves SEED COUNT`: COUNT shelf files, records to be found in them and added, and their rescue (shelves.rs);
 //! * `compare names SEED COUNT`: COUNT diagrams of families and of what is next to them, and their names (naming.rs);
 //! * `compare radii SEED COUNT`: COUNT figures, and how far the circumradii of their spellings lie apart (radii.rs).
 //!

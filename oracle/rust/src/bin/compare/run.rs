@@ -10,7 +10,7 @@ use std::{
 };
 
 /// The places of a tally; each comparison labels its own.
-pub const PLACES: usize = 108;
+pub const PLACES: usize = 128;
 
 pub struct Tally(pub [u64; PLACES]);
 

@@ -1,6 +1,6 @@
-//! Shelf files by chance, whole and with faults, and records to be found in them or added. Records are the smallest layouts
-//! of figures.rs, so that a fault of the port's own records can't hide one of its shelves. Most figures have few nodes: what
-//! a record is, `compare pairs` compares.
+//! Shelf files by chance, whole, with faults, and after a disk fault; records to be found in them or added. Records are the
+//! smallest layouts of figures.rs, so that a fault of the port's own records can't hide one of its shelves. Most figures have
+//! few nodes: what a record is, `compare pairs` compares.
 
 use miratope::diagrams::LIMIT;
 
@@ -9,6 +9,8 @@ use crate::{
     dice::Dice,
     figures::{Figure, PLAIN, RECORD},
     pairs::damage,
+    shelf_model::Rescued,
+    shelf_port::Rooms,
 };
 
 type Record = [u8; RECORD];
@@ -98,10 +100,7 @@ fn fault(dice: &mut Dice, file: &mut Vec<u8>) {
     match dice.below(10) {
         0 | 1 => damage(dice, place_of(file, place)),
         2 => damage_end(dice, place_of(file, place)),
-        3 | 4 => {
-            let bad = Figure::laid_out(place_of(file, place)).and_then(|figure| numbered_badly(dice, &figure));
-            bad.into_iter().for_each(|bad| *place_of(file, place) = bad);
-        }
+        3 | 4 => number_badly(dice, place_of(file, place)),
         5 | 6 => {
             let twice = *place_of(file, place);
             file.splice(at..at, twice);
@@ -118,6 +117,12 @@ fn fault(dice: &mut Dice, file: &mut Vec<u8>) {
 fn place_of(file: &mut [u8], place: usize) -> &mut Record {
     let at = place * RECORD;
     (&mut file[at..at + RECORD]).try_into().unwrap()
+}
+
+/// Another layout of its figure for the place, if it has one and a few trials find another.
+fn number_badly(dice: &mut Dice, place: &mut Record) {
+    let bad = Figure::laid_out(place).and_then(|figure| numbered_badly(dice, &figure));
+    bad.into_iter().for_each(|bad| *place = bad);
 }
 
 /// The first byte or the last.
@@ -164,6 +169,34 @@ impl Made {
         bytes.to_vec()
     }
 
+    /// The file after "A disk fault left a shelf with bad records and a cut tail": one place in two to one in eight has other
+    /// bytes, some of which can still be read, and half of the files end elsewhere.
+    pub fn after_disk_fault(&self, dice: &mut Dice) -> Vec<u8> {
+        let mut file = self.file.clone();
+        let share = dice.within(2, 8);
+        for place in 0..file.len() / RECORD {
+            if dice.one_in(share) {
+                self.hurt(dice, place_of(&mut file, place));
+            }
+        }
+        match dice.below(4) {
+            0 => file.truncate(file.len().saturating_sub(dice.within(1, RECORD - 1))),
+            1 => lengthen(dice, &mut file),
+            _ => {}
+        }
+        file
+    }
+
+    fn hurt(&self, dice: &mut Dice, place: &mut Record) {
+        match dice.below(8) {
+            0..=2 => damage(dice, place),
+            3 => damage_end(dice, place),
+            4 | 5 => number_badly(dice, place),
+            6 => *place = record(&next_figure(dice, &self.figures)),
+            _ => place.iter_mut().for_each(|byte| *byte = dice.next() as u8),
+        }
+    }
+
     /// How many bytes are lent for the file with one record added: as many, fewer or more.
     pub fn room(&self, dice: &mut Dice) -> usize {
         let needs = self.file.len() + RECORD;
@@ -175,6 +208,26 @@ impl Made {
             _ => dice.below(needs),
         }
     }
+}
+
+/// How many bytes are lent for a rescue: as many as the file and its places need, fewer or more, at times as many as the
+/// records kept have.
+pub fn rooms(dice: &mut Dice, file: &[u8], rescued: &Rescued) -> Rooms {
+    let (len, places) = (file.len(), rescued.marks.len());
+    let out = match dice.below(8) {
+        0..=3 => len,
+        4 => len + dice.pick(&[1, 7, RECORD, 2 * RECORD + 1]),
+        5 => len.saturating_sub(1),
+        6 => rescued.kept.len() * RECORD,
+        _ => dice.below(len + 1),
+    };
+    let marks = match dice.below(8) {
+        0..=4 => places,
+        5 => places + dice.pick(&[1, 7, 64, RECORD]),
+        6 => places.saturating_sub(1),
+        _ => dice.below(places + 1),
+    };
+    Rooms { out, marks }
 }
 
 /// Cut off, or with zeros behind.

@@ -1,9 +1,9 @@
-//! The four calls on shelf files, written from ticket K1's words and apart from the port. What reading a record comes to is
-//! figures.rs's model of document 01 and ticket K5, after the length.
+//! The calls on shelf files, written from the words of tickets K1 and K12 and apart from the port. What reading a record comes
+//! to is figures.rs's model of document 01 and ticket K5, after the length.
 
 use crate::{
     figures::{ReadBack, RECORD},
-    shelf_port::Due,
+    shelf_port::{Due, Rooms},
 };
 
 /// The number with which reading refuses bytes: "A record to be found or added is read first, with 13 and 14", and with 22 by
@@ -69,8 +69,29 @@ impl<'a> Asked<'a> {
     }
 }
 
+/// A file after a rescue with buffers that are long enough.
+pub struct Rescued<'a> {
+    file: &'a [u8],
+    /// The records copied.
+    pub kept: Vec<&'a [u8]>,
+    /// One for every place.
+    pub marks: Vec<u8>,
+    pub tail: usize,
+}
+
+impl Rescued<'_> {
+    /// "A second buffer shorter than the file, or a third with fewer bytes than places, gets 12."
+    pub fn due(&self, rooms: Rooms) -> Due {
+        if rooms.out < self.file.len() || rooms.marks < self.marks.len() {
+            return refused([12, 0, 0, 0]);
+        }
+        let answer = [0, self.kept.len(), self.tail, 0];
+        Due { answer, written: self.kept.concat(), marks: self.marks.clone() }
+    }
+}
+
 fn refused(answer: [usize; 4]) -> Due {
-    Due { answer, written: Vec::new() }
+    Due { answer, written: Vec::new(), marks: Vec::new() }
 }
 
 impl<'a> File<'a> {
@@ -145,7 +166,30 @@ impl<'a> File<'a> {
         places.push(asked.bytes);
         places.sort_unstable();
         let place = places.iter().position(|&place| place == asked.bytes).unwrap();
-        Due { answer: [0, place, 0, 0], written: places.concat() }
+        Due { answer: [0, place, 0, 0], written: places.concat(), marks: Vec::new() }
+    }
+
+    /// "A rescue call goes through the file by 370-byte places and copies to a second buffer each record that can be read and is
+    /// greater than the last one copied. A third buffer gets one byte for every place: 0 for kept, 1 for readable but out of
+    /// order, else the number with which reading refuses it. The result gives the places kept and the length of a tail of
+    /// fewer than 370 bytes."
+    pub fn rescued(&self) -> Rescued<'a> {
+        let places = self.bytes.chunks_exact(RECORD);
+        let tail = places.remainder().len();
+        let (mut kept, mut marks) = (Vec::<&[u8]>::new(), Vec::new());
+        for place in places {
+            let greater = kept.last().is_none_or(|&last| place > last);
+            match refusal(place) {
+                Some(number) => marks.push(number as u8),
+                None if greater => {
+                    marks.push(0);
+                    kept.push(place);
+                }
+                None => marks.push(1),
+            }
+        }
+        assert!(self.fault.is_some() || kept == self.places, "a file that already passed comes out unchanged");
+        Rescued { file: self.bytes, kept, marks, tail }
     }
 }
 
