@@ -18,7 +18,7 @@ BY_CHANCE, FURTHER = 110, 3000
 PLACE, LONGEST = shelf_corpus.PLACE, shelf_corpus.LONGEST
 RISING, SHELF, BETWEEN, UNLIKE = shelf_corpus.RISING, shelf_corpus.SHELF, shelf_corpus.BETWEEN, shelf_corpus.UNLIKE
 
-# Damage that makes a place of one node or more 14, and greater than any record, a little greater than it was, or less than any with nodes.
+# Damage that makes a place of one to eight nodes 14: greater than any record, a little greater than it was, less than any with nodes.
 FIRST, LAST, LOW = shelf_corpus.FIRST, shelf_corpus.LAST, "!00000"
 BADLY = shelf_corpus.layouts("xs")[0]                                       # numbered badly, and greater than `xs`: 22
 GREAT = "vxqfhkuws"                                                         # greater than any place of SHELF, and nodes unlike: read fast
@@ -46,7 +46,7 @@ def further():
 
 
 def line(held, room=None, marks=None, length=None):
-    """The line of a file's places and of what is lent of the two buffers, where none is given as much as is just enough; the file's length,
+    """The line of a file's places and of the lengths of both buffers, where one is not given that which is just enough; the file's length,
     where it is another than its places'."""
     file = ",".join(held) + ("" if length is None else f"#{length:03x}")
     length = PLACE * len(held) if length is None else length

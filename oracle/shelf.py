@@ -17,7 +17,7 @@ read with ticket K6's wish.
     FIND, BISECT             ok 1 PLACE, where the record is; ok 0 PLACE, where it would stand
     ADD                      ok PLACE DIGEST: the call is lent the first LLL of 4,096 bytes a5, and the digest is of all of them
 
-    FILE>LLL>LLL             of the second buffer and of the third the call is lent the first LLL of 4,096 bytes a5
+    FILE>LLL>LLL             FILE as above; of the second buffer and of the third the call is lent the first LLL of 4,096 bytes a5
     RESCUE                   ok KEPT TAIL DIGEST DIGEST, or no 12 DIGEST DIGEST: of all bytes of the second, and of the third
 
 Exit status: 0 nothing differs, 1 something does.
