@@ -1,5 +1,5 @@
 /* Coxeter diagrams in line notation, their filing records, the names of their groups, and files of records: the calls of crates/lexicon, geometry,
- * lexicon_names and shelf for C, proved in crates/lexicon_c.
+ * lexicon_names, shelf and shelf_rescue for C, proved in crates/lexicon_c.
  *
  * Each call takes any text, record, file, family letter and size, and any length of buffer, and ends with an answer or with a refusal. It returns 0 for an
  * answer, or the refusal's number, keeps nothing but the processor's floating-point flags, allocates nothing, and may be called from any thread; 20 KB of
@@ -26,7 +26,8 @@
  *   9       a literal outside the range                        position: the literal's last byte
  *   10      a tenth node                                       position: its first byte
  *   11      a reference to a missing node                      the edge's place among all edges of the text
- *   12      a buffer shorter than what the call writes
+ *   12      a buffer shorter than what the call writes, or
+ *           than lexicon_shelf_rescue asks for
  *   13      a record that is not 370 bytes long
  *   14      bytes laid out for no diagram in any numbering
  *   15      mirrors, or walls, that do not exist               column: the first that does not fit
@@ -169,7 +170,8 @@ size_t lexicon_names(const uint8_t *text, size_t text_len, size_t wish, uint64_t
  * before in byte order, which is that of memcmp. So no record is on it twice. An empty file is a shelf of 0 places. The calls touch no disk: a caller
  * lends the bytes of the file.
  *
- * A record that is looked up or added is read first, as by lexicon_read_record; then the file is tested, its length before its places. */
+ * A record that is looked up or added is read first, as by lexicon_read_record; then the file is tested, its length before its places.
+ * lexicon_shelf_rescue takes every file. */
 
 /* Whether a file is a shelf. Tells how many places it has.
  * Refuses with 18 and 19, tested in this order. It reads every place, each in the time of lexicon_read_record. */
@@ -192,6 +194,21 @@ size_t lexicon_shelf_bisect(const uint8_t *file, size_t file_len, const uint8_t 
  * each once, one after another, and check the file. */
 size_t lexicon_shelf_add(const uint8_t *file, size_t file_len, const uint8_t *bytes, size_t bytes_len, uint8_t *out, size_t out_len,
                          size_t answer[LEXICON_ANSWER]);
+
+/* A shelf of what can be kept of any file, such as one that a disk fault left with bad records and a cut tail. It goes through `file` by places of 370 bytes
+ * and copies to `out`, one behind another, each record that can be read and is greater than the last one copied. Tells the places kept, and the length of the
+ * tail, the fewer than 370 bytes behind the last whole place, which are only counted. marks[i] is that of place i: 0 for kept, 1 for readable but out of
+ * order, which is not greater than the last one copied before it, else the number with which lexicon_read_record refuses it, 14 or 22. `file` stays as it is.
+ * A librarian may rely on this:
+ *   - The first 370 * answer[1] bytes of `out` are a shelf, which need not be checked again. As many marks are 0 as places were kept.
+ *   - A file that is a shelf comes out unchanged: every mark is 0, and no tail is told.
+ *   - Bytes damaged inside one place never make another place unreadable: its mark is what it was, or 0 or 1 both before and after the damage. A damaged
+ *     place that can still be read may be too great, and then good places behind it are out of order.
+ *   - Bytes of `out` past the kept records, and of `marks` past the last place's mark, stay.
+ * Refuses with 12 alone: `out` is shorter than the whole file, its tail included, or `marks` has fewer bytes than the file has whole places. It reads every
+ * place, in the time of lexicon_shelf_check. Nothing is rescued in place: none of `file`, `out` and `marks` overlap. */
+size_t lexicon_shelf_rescue(const uint8_t *file, size_t file_len, uint8_t *out, size_t out_len, uint8_t *marks, size_t marks_len,
+                            size_t answer[LEXICON_ANSWER]);
 
 #ifdef __cplusplus
 }

@@ -158,6 +158,16 @@ extern "sysv64" {
         out_len: usize,
         answer: *mut usize,
     ) -> usize;
+
+    fn lexicon_shelf_rescue(
+        file: *const u8,
+        file_len: usize,
+        out: *mut u8,
+        out_len: usize,
+        marks: *mut u8,
+        marks_len: usize,
+        answer: *mut usize,
+    ) -> usize;
 }
 
 /// Tells the nodes, the stored edges and whether the diagram is minimal. Here and below, lengths may
@@ -294,6 +304,29 @@ pub fn shelf_add(file: &[u8], record: &[u8; RECORD]) -> CdResult<(Vec<u8>, usize
     };
     let [place, ..] = told(answer)?;
     Ok((out, place))
+}
+
+/// The shelf file of what is kept of any file, the mark of each of its places, and the length of its
+/// tail.
+pub fn shelf_rescue(file: &[u8]) -> CdResult<(Vec<u8>, Vec<u8>, usize)> {
+    let mut out = vec![0; file.len()];
+    let mut marks = vec![0; file.len() / RECORD];
+    let mut answer = [0; ANSWER];
+    // SAFETY: the lengths are the slice's and the vectors' own, and the header's for the answer.
+    unsafe {
+        lexicon_shelf_rescue(
+            file.as_ptr(),
+            file.len(),
+            out.as_mut_ptr(),
+            out.len(),
+            marks.as_mut_ptr(),
+            marks.len(),
+            answer.as_mut_ptr(),
+        )
+    };
+    let [kept, tail, _] = told(answer)?;
+    out.truncate(kept * RECORD);
+    Ok((out, marks, tail))
 }
 
 /// `call` is one of the header's that take a text and have no numbering.

@@ -20,7 +20,7 @@
 //! ```
 //!
 //! A [`Shelf`] is a file of many records, sorted: an editor adds articles to it, and a server asks
-//! it whether a headword is taken.
+//! it whether a headword is taken. [`Shelf::rescue`] keeps what can be kept of a damaged one.
 //!
 //! ```
 //! use lexicon::{Cd, Shelf};
@@ -89,6 +89,7 @@ mod error;
 mod ffi;
 mod group;
 mod record;
+mod rescue;
 mod shelf;
 
 pub use cd::{Cd, Generator};
@@ -97,4 +98,5 @@ pub use diagram::{Diagram, Edge, Node, StoredEdge};
 pub use error::{CdError, CdResult};
 pub use group::{Group, GroupName, Groups};
 pub use record::{Record, RecordError};
+pub use rescue::{PlaceMark, Rescue};
 pub use shelf::Shelf;

@@ -4,14 +4,15 @@ use std::fmt;
 
 use crate::{
     ffi::{self, RECORD},
-    CdResult, Record,
+    CdResult, PlaceMark, Record, Rescue,
 };
 
 /// A shelf file: the records of many articles, 370 bytes each, each greater than the one before.
 ///
-/// It comes from bytes that the library has checked, or grows from an empty one. So every place has
-/// a record, and no record is there twice: texts that are filed at two of its places are never one
-/// figure. Nothing here touches a disk.
+/// It comes from bytes that the library has checked, grows from an empty one, or is what
+/// [`Shelf::rescue`] keeps of a damaged file. So every place has a record, and no record is there
+/// twice: texts that are filed at two of its places are never one figure. Nothing here touches a
+/// disk.
 ///
 /// An editor who adds an article finds every old record there, in order, and the new one in its
 /// only possible place:
@@ -80,6 +81,48 @@ impl Shelf {
         let bytes = bytes.into();
         ffi::shelf_check(&bytes)?;
         Ok(Self { bytes })
+    }
+
+    /// Keeps what can be kept of any file, such as one that a disk fault left with bad records and a
+    /// cut tail: by places of 370 bytes, each record that can be read and is greater than the last
+    /// one kept. It reads every place, as [`Shelf::new`] does, and lends the library as much memory
+    /// again as the file has.
+    ///
+    /// What is kept is proved to be a file that the check accepts, and so is not checked again
+    /// (`rescue-passes` in `crates/shelf_rescue/proofs/Librarian.antt`). A file that
+    /// [`Shelf::new`] takes is kept whole, and bytes damaged inside one place never make another
+    /// unreadable. But a damaged place that can still be read may be too great, and then good places
+    /// behind it are out of order.
+    ///
+    /// ```
+    /// use lexicon::{Cd, CdError, PlaceMark, Record, Shelf};
+    ///
+    /// let mut shelf = Shelf::default();
+    /// for text in ["x", "x3o", "x4o3o"] {
+    ///     shelf.add(&Cd::parse(text)?.record())?;
+    /// }
+    /// let mut file = shelf.as_bytes().to_vec();
+    /// assert!(Shelf::rescue(&file).all_kept());
+    ///
+    /// file[Record::LEN] = 255; // the second record is damaged,
+    /// file.extend_from_within(..500); // and behind the third come the first and a part of it
+    /// let rescue = Shelf::rescue(&file);
+    /// assert!(rescue.shelf.records().eq([Cd::parse("x")?.record(), Cd::parse("x4o3o")?.record()]));
+    /// let refused = PlaceMark::Refused(CdError::NoDiagram);
+    /// assert_eq!(rescue.marks, [PlaceMark::Kept, refused, PlaceMark::Kept, PlaceMark::OutOfOrder]);
+    /// assert_eq!(rescue.tail, 130);
+    /// # Ok::<(), CdError>(())
+    /// ```
+    #[must_use]
+    pub fn rescue(file: &[u8]) -> Rescue {
+        let rescued = ffi::shelf_rescue(file);
+        let (bytes, marks, tail) = rescued
+            .unwrap_or_else(|e| unreachable!("buffers as long as the file were refused: {e}"));
+        Rescue {
+            shelf: Self { bytes },
+            marks: marks.into_iter().map(PlaceMark::from_number).collect(),
+            tail,
+        }
     }
 
     /// How many places the shelf has, each with its record.

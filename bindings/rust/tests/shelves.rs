@@ -1,8 +1,9 @@
-//! Shelves: files that are checked, searched and added to, or refused.
+//! Shelves: files that are checked, searched and added to, or refused, and what is kept of damaged
+//! ones.
 
 use std::{collections::HashSet, thread};
 
-use lexicon::{Cd, CdError, CdResult, Record, Shelf};
+use lexicon::{Cd, CdError, CdResult, PlaceMark, Record, Rescue, Shelf};
 
 /// Figures by rising record. The second, fourth and so on are on [`shelf`]; the others would stand
 /// before all, between any two, and after all.
@@ -32,6 +33,11 @@ fn bytes(records: &[Record]) -> Vec<u8> {
 
 fn shelf() -> Shelf {
     Shelf::new(bytes(&on_shelf())).unwrap()
+}
+
+/// Bytes that tell no figure.
+fn damaged() -> Record {
+    Record::from_trusted_bytes(&[255; Record::LEN])
 }
 
 /// Bytes that tell a figure under another numbering than the filed one.
@@ -117,7 +123,7 @@ fn assert_wrong(place: usize, laid: &Record) {
     records[place] = *laid;
     assert_eq!(Shelf::new(bytes(&records)), wrong);
     assert_eq!(Shelf::new(bytes(&records[..=place])), wrong);
-    records[place + 1..].fill(Record::from_trusted_bytes(&[255; Record::LEN]));
+    records[place + 1..].fill(damaged());
     assert_eq!(Shelf::new(bytes(&records)), wrong);
 }
 
@@ -239,9 +245,8 @@ fn many_places_are_searched_as_a_slice_is() {
 
 #[test]
 fn records_of_trusted_bytes_are_read_first() {
-    let damaged = Record::from_trusted_bytes(&[255; Record::LEN]);
     for (record, refusal) in [
-        (damaged, CdError::NoDiagram),
+        (damaged(), CdError::NoDiagram),
         (turned(), CdError::NotSmallest),
     ] {
         let mut shelf = shelf();
@@ -262,4 +267,154 @@ fn threads_share_it() {
             scope.spawn(move || assert_eq!(shelf.find(&record), Ok(Ok(place))));
         }
     });
+}
+
+const REFUSED: PlaceMark = PlaceMark::Refused(CdError::NoDiagram);
+
+/// What is to be kept of a file, place by place as the header says.
+fn kept_of(file: &[u8]) -> Rescue {
+    let (places, tail) = file.as_chunks::<{ Record::LEN }>();
+    let mut kept: Vec<Record> = Vec::new();
+    let marks = places.iter().map(|bytes| match Record::from_bytes(bytes) {
+        Ok(record) if kept.last().is_none_or(|last| *last < record) => {
+            kept.push(record);
+            PlaceMark::Kept
+        }
+        Ok(_) => PlaceMark::OutOfOrder,
+        Err(e) => PlaceMark::Refused(e),
+    });
+    Rescue {
+        marks: marks.collect(),
+        shelf: Shelf::new(bytes(&kept)).unwrap(),
+        tail: tail.len(),
+    }
+}
+
+#[test]
+fn a_shelf_is_kept_whole() {
+    for places in 0..=4 {
+        let file = &bytes(&on_shelf())[..places * Record::LEN];
+        let rescue = Shelf::rescue(file);
+        assert_eq!(rescue.shelf.as_bytes(), file);
+        assert_eq!(rescue.marks, vec![PlaceMark::Kept; places]);
+        assert_eq!((rescue.tail, rescue.all_kept()), (0, true));
+    }
+}
+
+#[test]
+fn a_tail_is_told_and_not_kept() {
+    let shelf = bytes(&on_shelf());
+    for len in [1, 369, 371, 739, 741, 1479] {
+        let rescue = Shelf::rescue(&shelf[..len]);
+        let places = len / Record::LEN;
+        assert_eq!(rescue.shelf.as_bytes(), &shelf[..places * Record::LEN]);
+        assert_eq!(rescue.marks, vec![PlaceMark::Kept; places]);
+        assert_eq!((rescue.tail, rescue.all_kept()), (len % 370, false));
+
+        let rescue = Shelf::rescue(&vec![255; len]);
+        assert!(rescue.shelf.is_empty());
+        assert_eq!(rescue.marks, vec![REFUSED; places]);
+        assert_eq!((rescue.tail, rescue.all_kept()), (len % 370, false));
+    }
+}
+
+#[test]
+fn a_damaged_place_is_left_out() {
+    for laid in [damaged(), turned()] {
+        for place in 0..4 {
+            let mut records = on_shelf();
+            records[place] = laid;
+            let rescue = Shelf::rescue(&bytes(&records));
+            let mut marks = [PlaceMark::Kept; 4];
+            let refusal = Record::from_bytes(laid.as_bytes()).unwrap_err();
+            marks[place] = PlaceMark::Refused(refusal);
+            records.remove(place);
+            assert!(rescue.shelf.records().eq(records));
+            assert_eq!(rescue.marks, marks);
+            assert_eq!((rescue.tail, rescue.all_kept()), (0, false));
+        }
+    }
+}
+
+#[test]
+fn equal_and_descending_places_are_out_of_order() {
+    use PlaceMark::{Kept, OutOfOrder};
+
+    let [a, b, c, d] = on_shelf().try_into().unwrap();
+    for (laid, kept, marks) in [
+        ([a, a, b, d], vec![a, b, d], [Kept, OutOfOrder, Kept, Kept]),
+        (
+            [b, a, b, c],
+            vec![b, c],
+            [Kept, OutOfOrder, OutOfOrder, Kept],
+        ),
+        (
+            [d, a, b, c],
+            vec![d],
+            [Kept, OutOfOrder, OutOfOrder, OutOfOrder],
+        ),
+        (
+            [b, damaged(), a, c],
+            vec![b, c],
+            [Kept, REFUSED, OutOfOrder, Kept],
+        ),
+        (
+            [damaged(), b, a, a],
+            vec![b],
+            [REFUSED, Kept, OutOfOrder, OutOfOrder],
+        ),
+    ] {
+        let rescue = Shelf::rescue(&bytes(&laid));
+        assert!(rescue.shelf.records().eq(kept));
+        assert_eq!(rescue.marks, marks);
+        assert_eq!((rescue.tail, rescue.all_kept()), (0, false));
+    }
+}
+
+/// Each figure, a damaged record and one numbered badly, at each of three places, with a tail.
+#[test]
+fn every_file_of_three_places_is_rescued_as_the_header_says() {
+    let mut laid = records();
+    laid.extend([damaged(), turned()]);
+    for i in 0..laid.len().pow(3) {
+        let places = [i, i / laid.len(), i / laid.len().pow(2)].map(|i| laid[i % laid.len()]);
+        let mut file = bytes(&places);
+        file.resize(file.len() + i % Record::LEN, 0);
+        let rescue = Shelf::rescue(&file);
+        assert_eq!(rescue, kept_of(&file));
+        assert_eq!(rescue.all_kept(), Shelf::new(file).is_ok());
+    }
+}
+
+/// Whichever byte of a place is damaged, the other places are kept or out of order as before, and
+/// those before it as they were.
+#[test]
+fn damage_inside_one_place_makes_no_other_unreadable() {
+    let file = bytes(&on_shelf());
+    for place in 0..4 {
+        for at in 0..Record::LEN {
+            for flipped in [1, 2, 128, 255] {
+                let mut file = file.clone();
+                file[place * Record::LEN + at] ^= flipped;
+                let rescue = Shelf::rescue(&file);
+                assert_eq!(rescue, kept_of(&file));
+                let (before, behind) = rescue.marks.split_at(place);
+                assert!(before.iter().all(|&mark| mark == PlaceMark::Kept));
+                let readable = |mark: &PlaceMark| !matches!(mark, PlaceMark::Refused(_));
+                assert!(behind[1..].iter().all(readable));
+            }
+        }
+    }
+}
+
+#[test]
+fn what_was_kept_is_a_shelf_like_others() {
+    let mut file = bytes(&on_shelf());
+    file[Record::LEN] = 255;
+    file.push(0);
+    let mut shelf = Shelf::rescue(&file).shelf;
+    assert_eq!(Shelf::new(shelf.as_bytes()), Ok(shelf.clone()));
+    assert_eq!(shelf.find(&on_shelf()[1]), Ok(Err(1)));
+    assert_eq!(shelf.add(&on_shelf()[1]), Ok(1));
+    assert_eq!(shelf.into_bytes(), bytes(&on_shelf()));
 }
