@@ -71,6 +71,7 @@ static const struct call shelf_check = {"lexicon_shelf_check", sizeof(uint8_t), 
 static const struct call shelf_find = {"lexicon_shelf_find", sizeof(uint8_t), 0, .in_file = lexicon_shelf_find};
 static const struct call shelf_bisect = {"lexicon_shelf_bisect", sizeof(uint8_t), 0, .in_file = lexicon_shelf_bisect};
 static const struct call shelf_add = {"lexicon_shelf_add", sizeof(uint8_t), LEXICON_RECORD, NULL, NULL, NULL, NULL};
+static const struct call shelf_rescue = {"lexicon_shelf_rescue", sizeof(uint8_t), 0, NULL, NULL, NULL, NULL}; // which has two buffers, and is run apart
 
 static const struct call *const of_texts[] = {&read_text, &names, &write_record, &matrix, &mirrors, &walls, &generator, &wall_generator, &reflections};
 static const struct call *const over_mirrors[] = {&mirrors, &generator, &reflections};
@@ -86,7 +87,7 @@ static unsigned long checks;
 // What is being called, for `run` and for the message.
 static const struct call *now;
 static struct input given;
-static size_t given_out;
+static size_t given_out, given_marks;
 
 static void check(bool holds, const char *what)
 {
@@ -98,6 +99,8 @@ static void check(bool holds, const char *what)
         printf("family %u, size %zu", (unsigned)given.letter, given.size);
     else
         printf("%zu bytes, wish %zu, file of %zu bytes", given.len, given.wish, given.file_len);
+    if (now == &shelf_rescue)
+        printf(", marks of %zu", given_marks);
     printf(", buffer of %zu: %s; answer %zu %zu %zu %zu\n", given_out, what, answer[0], answer[1], answer[2], answer[3]);
     exit(1);
 }
@@ -913,6 +916,165 @@ static void many_places(void)
     expect_wrong_file(file, sizeof file, ANSWER(19, MANY_PLACES - 1));
 }
 
+// ---- rescue
+
+static uint8_t marks[SPARE + MANY_PLACES + 2 * SPARE];
+
+// What is to be kept of a file, place by place as the header says.
+static struct {
+    size_t places, kept, tail;
+    uint8_t file[LEXICON_RECORD * MANY_PLACES], marks[MANY_PLACES];
+} due;
+
+static void fill_due(const uint8_t *file, size_t len)
+{
+    due.places = len / LEXICON_RECORD;
+    due.tail = len % LEXICON_RECORD;
+    due.kept = 0;
+    for (size_t i = 0; i < due.places; i++) {
+        uint64_t diagram[LEXICON_DIAGRAM];
+        size_t told[LEXICON_ANSWER], number = lexicon_read_record(place(file, i), LEXICON_RECORD, diagram, LEXICON_DIAGRAM, told);
+        bool greater = due.kept == 0 || memcmp(place(file, i), place(due.file, due.kept - 1), LEXICON_RECORD) > 0;
+        due.marks[i] = (uint8_t)(number != 0 ? number : !greater);
+        if (due.marks[i] == 0)
+            memcpy(due.file + LEXICON_RECORD * due.kept++, place(file, i), LEXICON_RECORD);
+    }
+}
+
+// Whether a buffer, which has spare elements around it, begins with these bytes, and all else has kept the fill.
+static bool begins(const uint8_t *buffer, size_t len, const uint8_t *bytes, size_t written, uint8_t fill)
+{
+    return filled(buffer - SPARE, fill, SPARE) && memcmp(buffer, bytes, written) == 0 && filled(buffer + written, fill, len - written + SPARE);
+}
+
+// Runs the call over buffers that are filled with a byte, and checks the answer and both buffers.
+static void rescue_over(uint8_t fill, bool null)
+{
+    bool fits = given_out >= given.file_len && given_marks >= due.places;
+    const size_t *wanted = fits ? ANSWER(0, due.kept, due.tail) : ANSWER(12);
+    uint8_t *copied = (uint8_t *)out + SPARE, *marked = marks + SPARE;
+    memset(out, fill, SPARE + given_out + SPARE);
+    memset(marks, fill, sizeof marks);
+    memset(answer, fill, sizeof answer);
+    size_t number = lexicon_shelf_rescue(given.file, given.file_len, null && given_out == 0 ? NULL : copied, given_out,
+                                         null && given_marks == 0 ? NULL : marked, given_marks, answer);
+    check(number == wanted[0], "it returns another number");
+    check(memcmp(answer, wanted, LEXICON_ANSWER * sizeof *answer) == 0, "its answer is another");
+    check(filled(answer + LEXICON_ANSWER, fill, SPARE * sizeof *answer), "it writes past its answer");
+    check(begins(copied, given_out, due.file, fits ? LEXICON_RECORD * due.kept : 0, fill), "what it keeps is other, or it changes bytes that it should keep");
+    check(begins(marked, given_marks, due.marks, fits ? due.places : 0, fill), "its marks are others, or it changes bytes that it should keep");
+}
+
+static void rescue_to(size_t out_len, size_t marks_len)
+{
+    given_out = out_len;
+    given_marks = marks_len;
+    rescue_over(0xa5, false);
+    rescue_over(0x5a, true);
+}
+
+// To buffers that are full. What is kept is a shelf.
+static void expect_rescued(const uint8_t *file, size_t len)
+{
+    fill_due(file, len);
+    expect_answer(&shelf_check, file_alone(due.file, LEXICON_RECORD * due.kept), ANSWER(0, due.kept));
+    now = &shelf_rescue;
+    given = file_alone(file, len);
+    rescue_to(len, due.places);
+}
+
+// Also to longer buffers, and to buffers that are too short: by one, by the tail, or so that only what is kept would fit.
+static void expect_rescue(const uint8_t *file, size_t len)
+{
+    expect_rescued(file, len);
+    size_t lengths[] = {len, len + SPARE, 0, LEXICON_RECORD * due.kept, LEXICON_RECORD * due.places, len > 0 ? len - 1 : 0};
+    size_t counts[] = {due.places, due.places + SPARE, 0, due.places > 0 ? due.places - 1 : 0};
+    for (size_t i = 0; i < LEN(lengths); i++)
+        for (size_t k = 0; k < LEN(counts); k++)
+            rescue_to(lengths[i], counts[k]);
+}
+
+// A shelf comes out unchanged.
+static void expect_whole(const uint8_t *file, size_t places)
+{
+    expect_rescue(file, LEXICON_RECORD * places);
+    check(due.kept == places && memcmp(due.file, file, LEXICON_RECORD * places) == 0, "a place of a shelf is not kept");
+}
+
+static void rescued_shelves(void)
+{
+    expect_rescue(NULL, 0);
+    for (size_t places = 0; places <= PLACES; places++)
+        expect_whole(shelf, places);
+    expect_whole(figures[0], FIGURES);
+}
+
+// Of a shelf, of bytes that can't be read, and of equal neighbours, the records of no nodes.
+static void rescued_lengths(void)
+{
+    static const size_t lengths[] = {1, LEXICON_RECORD - 1, LEXICON_RECORD, LEXICON_RECORD + 1, 2 * LEXICON_RECORD - 1, 2 * LEXICON_RECORD,
+                                     2 * LEXICON_RECORD + 1, sizeof shelf - 1};
+    static const uint8_t fills[] = {0xff, 0};
+    uint8_t file[sizeof shelf];
+    for (size_t i = 0; i < LEN(lengths); i++) {
+        expect_rescue(shelf, lengths[i]);
+        for (size_t k = 0; k < LEN(fills); k++) {
+            memset(file, fills[k], sizeof file);
+            expect_rescue(file, lengths[i]);
+        }
+    }
+}
+
+// Each figure, bytes with 14 and bytes with 22, at each of three places.
+static void rescued_places(void)
+{
+    static uint8_t laid[FIGURES + 2][LEXICON_RECORD];
+    uint8_t file[3 * LEXICON_RECORD + 1];
+    memcpy(laid, figures, sizeof figures);
+    memset(laid[FIGURES], 0xff, LEXICON_RECORD);
+    record_of("x4o", laid[FIGURES + 1]);
+    exchange(laid[FIGURES + 1], 2, 0, 1);
+    for (size_t i = 0; i < LEN(laid) * LEN(laid) * LEN(laid); i++) {
+        size_t at[] = {i % LEN(laid), i / LEN(laid) % LEN(laid), i / LEN(laid) / LEN(laid)};
+        for (size_t k = 0; k < LEN(at); k++)
+            memcpy(file + LEXICON_RECORD * k, laid[at[k]], LEXICON_RECORD);
+        expect_rescue(file, sizeof file - i % 2); // with a tail of a byte, or without one
+    }
+}
+
+// Whichever byte of a place is damaged, the places before it are kept, and those behind it can be read.
+static void rescued_damage(void)
+{
+    static const uint8_t flips[] = {1, 2, 128, 255};
+    uint8_t file[sizeof shelf];
+    for (size_t i = 0; i < sizeof shelf; i++)
+        for (size_t k = 0; k < LEN(flips); k++) {
+            memcpy(file, shelf, sizeof file);
+            file[i] ^= flips[k];
+            expect_rescued(file, sizeof file);
+            for (size_t at = 0; at < PLACES; at++)
+                check(at == i / LEXICON_RECORD || due.marks[at] <= (at > i / LEXICON_RECORD), "a place beside the damaged one is lost");
+        }
+}
+
+// More places than a byte counts; then every third is damaged, and the last but one is too great.
+static void rescued_many(void)
+{
+    static uint8_t file[LEXICON_RECORD * MANY_PLACES];
+    char typed[MOST_BYTES];
+    for (size_t i = 0; i < MANY_PLACES; i++) {
+        snprintf(typed, sizeof typed, "x%zuo", i + 3);
+        record_of(typed, file + LEXICON_RECORD * i);
+    }
+    expect_whole(file, MANY_PLACES);
+    for (size_t i = 0; i < MANY_PLACES; i += 3)
+        file[LEXICON_RECORD * i] = 0xff;
+    memcpy(file + LEXICON_RECORD * (MANY_PLACES - 2), figures[FIGURES - 1], LEXICON_RECORD);
+    expect_rescue(file, sizeof file - 1);
+    expect_rescue(file, sizeof file);
+    check(due.kept == 2 * MANY_PLACES / 3 - 1 && due.marks[MANY_PLACES - 1] == 1, "another number of places is kept");
+}
+
 // ---- families
 
 static size_t least_size(unsigned letter)
@@ -1255,6 +1417,7 @@ static void (*const tests[])(void) = {
     accepted_texts, lowest_terms, refused_texts, refused_geometry, refused_infinite_lengths, wishes, lengths, single_bytes, bytes_at_every_position,
     record_lengths, accepted_records, other_numberings, damaged_records, damaged_bytes, any_values, mended_records,
     fill_shelf, shelves, file_lengths, damaged_places, unsorted_places, refused_records, short_buffers, orders, many_places,
+    rescued_shelves, rescued_lengths, rescued_places, rescued_damage, rescued_many,
     families, past_one_node, walls_at_right_angles, wall_radii, walls_of_no_nodes, family_walls_are_of_texts,
     every_name, names_of_few_nodes, several_components, names_of_spellings, refused_names, names_without_mirrors, names_in_other_buffers,
     equal_articles,
