@@ -119,7 +119,7 @@ A shelf has the record of each article, 370 bytes, each greater than the one bef
 counted from 0. A file that is no shelf is refused, with the place that is wrong and what stands
 there. The commands that only read take no lock: they see the old shelf or the new one.
 
-Exit status: 0; 1 for refused, not found or already there; 2 for a failure.";
+Exit status: 0; 1 for refused, not found, already there or not kept; 2 for a failure.";
 
 const SHELF_CHECK: &str = "\
 Exit status: 0, 1 if the file is refused, 2 for a failure.
@@ -175,6 +175,38 @@ Example:
   $ printf 'x3o4o\\nx\\no4o3x\\n' | lexicon shelf make articles.shelf
   -:3: o4o3x is the figure of -:1: x3o4o
   articles.shelf: 2 places";
+
+const SHELF_RESCUE: &str = "\
+OLD, a shelf that was damaged or cut, is only read. NEW, which must not be there, gets each record
+that can be read and is greater than the last one kept. On each other place there is a line: the
+refusal if it can't be read; else that it is out of order and, unless a place that is kept has the
+same record, a tab and a text of its figure. Bytes behind the last whole place are not kept.
+
+A damaged record may still be read, as another figure. If that is too great, it is kept, and good
+places behind it are out of order, often many in a row; so it is told which place they are less
+than, and what stands there. Of what is out of order, add the texts that are right with `lexicon
+shelf add`. If a record that is kept is wrong, make the shelf anew of the right texts, with `lexicon
+shelf list` and `lexicon shelf make`. What can't be read is filed again by its article's text, and
+`lexicon shelf find` tells which texts are missing.
+
+Exit status: 0 if all was kept, 1 if a place or the bytes behind the last one were not, 2 for a
+failure.
+
+Example:
+  $ (tail -c 740 articles.shelf; printf %370s; head -c 500 articles.shelf) >old.shelf
+  $ lexicon shelf rescue old.shelf new.shelf
+  old.shelf: 2 places not kept:
+    2  refusal 14
+    3  out of order, less than place 1	x
+  refusal 14: record not the layout of any diagram: bad count, kind, value, fraction or filler
+  out of order: still in old.shelf; `lexicon shelf add new.shelf TEXT...` adds those that are right
+  kept before them, and perhaps damaged and too great:
+    place 1: x3o4o
+  old.shelf: the last 130 bytes are no whole place, and not kept
+  new.shelf: 2 of 4 places kept
+  $ lexicon shelf add new.shelf x
+  x: added, place 0
+  new.shelf: 3 places";
 
 /// The whole command line.
 pub fn command() -> Command {
@@ -291,6 +323,13 @@ fn shelf() -> Command {
                 .arg(file()),
         )
         .subcommand(of_texts("make", "Makes a new shelf file of a list", SHELF_MAKE).arg(file()))
+        .subcommand(
+            Command::new("rescue")
+                .about("Keeps what can be kept of a damaged shelf file")
+                .after_help(SHELF_RESCUE)
+                .arg(path("OLD", "The damaged file"))
+                .arg(path("NEW", "The new shelf file")),
+        )
 }
 
 /// A command that reads texts.
@@ -309,10 +348,14 @@ fn text(name: &'static str, help: &'static str) -> Arg {
 }
 
 fn file() -> Arg {
-    Arg::new("FILE")
+    path("FILE", "The shelf file")
+}
+
+fn path(name: &'static str, help: &'static str) -> Arg {
+    Arg::new(name)
         .required(true)
         .value_parser(value_parser!(PathBuf))
-        .help("The shelf file")
+        .help(help)
 }
 
 fn flag(name: &'static str, help: &'static str) -> Arg {

@@ -72,8 +72,8 @@ pub fn advice(refusal: &CdError) -> &'static str {
         CdError::InfiniteLength { .. } => {
             "Type the length that is meant, or take infinite lengths with --infinite."
         }
-        CdError::ShelfLength => "Take the file from a copy: a shelf has 370 bytes a place.",
-        CdError::ShelfPlace { .. } => "Take the file from a copy, or make it anew with `lexicon shelf make`.",
+        CdError::ShelfLength => "Take the file from a copy, or keep its whole places with `lexicon shelf rescue`: a shelf has 370 bytes a place.",
+        CdError::ShelfPlace { .. } => "Take the file from a copy, make it anew with `lexicon shelf make`, or keep what can be kept with `lexicon shelf rescue`.",
         CdError::OnShelf { .. } => "Look for the article that has this figure.",
         CdError::Crowded { .. } => "Such a figure has no mirrors, or no walls, in spherical space; nothing is wrong with its text.",
         CdError::Infinite { .. } => "A figure with an infinite length has no generator.",

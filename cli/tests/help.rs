@@ -4,7 +4,7 @@ mod common;
 
 use common::{lexicon, Folder};
 
-const COMMANDS: [&[&str]; 10] = [
+const COMMANDS: [&[&str]; 11] = [
     &["check"],
     &["same"],
     &["show"],
@@ -16,6 +16,7 @@ const COMMANDS: [&[&str]; 10] = [
     &["shelf", "find"],
     &["shelf", "list"],
     &["shelf", "add"],
+    &["shelf", "rescue"],
 ];
 
 /// The examples that a command's help has: what is typed, and what is written then.

@@ -1,5 +1,6 @@
-//! Replacements of a shelf file that are killed, fail, run into each other or into other programs:
-//! the file is always the old shelf or the new one, and the next run leaves no stray file.
+//! Replacements of a shelf file, and new shelf files, made of a list or rescued, that are killed, fail,
+//! run into each other or into other programs: the file is always the old shelf or the new one, and
+//! the next run leaves no stray file.
 
 mod common;
 mod shelf_tools;
@@ -249,38 +250,41 @@ fn out_of_space_after_half_of_the_bytes() {
     next_run(&folder, "out of space");
 }
 
-#[test]
-fn out_of_space_on_a_small_file_system() {
+/// Runs `lexicon shelf` on a file system that has room for one shelf of 74,000 bytes, but not for two.
+fn on_a_small_file_system(arguments: &[&str]) -> Option<Run> {
     // A mount that no other process sees, and that ends with the shell.
     const SCRIPT: &str = r#"
-        if ! mount -t tmpfs -o size=128k small "$1"; then echo no mount; exit 77; fi
-        cp old "$1/articles.shelf" && cd "$1" || exit 99
-        "$2" shelf add articles.shelf x3o4o x 'x3o3o *b3o'
+        if ! mount -t tmpfs -o size=128k small small; then echo no mount; exit 77; fi
+        cp old small/articles.shelf && cd small || exit 99
+        "$@"
         status=$?
         cmp articles.shelf ../old && test "$(ls -A)" = articles.shelf || exit 98
         exit $status"#;
     let folder = Folder::new();
-    folder.write("old", old()); // of 74,000 bytes: there is no room for two
+    folder.write("old", old());
     fs::create_dir(folder.path("small")).unwrap();
     let mut command = Command::new("unshare");
-    command.args([
-        "--map-root-user",
-        "--mount",
-        "sh",
-        "-c",
-        SCRIPT,
-        "sh",
-        "small",
-    ]);
+    command.args(["--map-root-user", "--mount", "sh", "-c", SCRIPT, "sh"]);
     command
-        .arg(env!("CARGO_BIN_EXE_lexicon"))
+        .args([env!("CARGO_BIN_EXE_lexicon"), "shelf"])
+        .args(arguments)
         .stdin(Stdio::null())
         .current_dir(&folder.0);
     let run = Run::of(&mut command);
     if run.status == Some(77) || run.err.starts_with("unshare:") {
         println!("no mount is allowed here; only the interposed calls ran out of space: {run:?}");
-    } else {
+        return None;
+    }
+    Some(run)
+}
+
+#[test]
+fn out_of_space_on_a_small_file_system() {
+    if let Some(run) = on_a_small_file_system(&ADD) {
         run.fails("the new shelf: No space left on device");
+    }
+    if let Some(run) = on_a_small_file_system(&["rescue", NAME, "other.shelf"]) {
+        run.fails("other.shelf: No space left on device (os error 28); it was not made");
     }
 }
 
@@ -296,8 +300,12 @@ fn out_of_a_file_size_limit() {
     };
     limited("add articles.shelf x3o4o x 'x3o3o *b3o'").fails("the new shelf: File too large");
     assert!(folder.read(NAME) == old());
-    limited("make other.shelf <list")
-        .fails("other.shelf: File too large (os error 27); it was not made");
+    for making in [
+        "make other.shelf <list",
+        "rescue articles.shelf other.shelf",
+    ] {
+        limited(making).fails("other.shelf: File too large (os error 27); it was not made");
+    }
     assert_eq!(folder.names(), [NAME, "list"]);
     fs::remove_file(folder.path("list")).unwrap();
     next_run(&folder, "limit");
@@ -614,10 +622,31 @@ fn made() -> Vec<u8> {
     shelf_of(ADD.into_iter().skip(2))
 }
 
-#[test]
-fn killed_at_each_step_of_making() {
+/// A folder with that shelf, from which runs rescue the same one.
+struct Elsewhere(Folder);
+
+impl Elsewhere {
+    fn new() -> Self {
+        let folder = Folder::new();
+        folder.write("old.shelf", made());
+        Self(folder)
+    }
+
+    fn rescue(&self, folder: &Folder) -> Command {
+        let old = self.0.path("old.shelf");
+        folder.command(["rescue".as_ref(), old.as_os_str(), NAME.as_ref()])
+    }
+
+    /// Asserts that no run changed it or left a file beside it.
+    fn is_as_it_was(&self) {
+        assert!(self.0.read("old.shelf") == made());
+        assert_eq!(self.0.names(), ["old.shelf"]);
+    }
+}
+
+fn killed_at_each_step(making: impl Fn(&Folder) -> Command) {
     let folder = Folder::new();
-    let calls = calls(&mut make(&folder));
+    let calls = calls(&mut making(&folder));
     assert!(folder.read(NAME) == made());
     let link = first(&calls, "linkat");
     for (n, call) in (1..).zip(&calls) {
@@ -628,14 +657,14 @@ fn killed_at_each_step_of_making() {
         ] {
             let what = format!("{fault:?} of call {n}, {call}");
             fs::remove_file(folder.path(NAME)).unwrap();
-            let run = at(&mut make(&folder), n, fault);
+            let run = at(&mut making(&folder), n, fault);
             assert_eq!(run.status, None, "{what}: {run:?}");
             let there = n > link || n == link && matches!(fault, Fault::KillAfter);
             assert_eq!(folder.path(NAME).exists(), there, "{what}");
             assert!(!there || folder.read(NAME) == made(), "{what}");
             let (next, status) = match (there, adding) {
                 (true, true) => (Run::of(&mut folder.command(ADD)), 1),
-                _ => (Run::of(&mut make(&folder)), 2 * i32::from(there)),
+                _ => (Run::of(&mut making(&folder)), 2 * i32::from(there)),
             };
             assert_eq!(next.status, Some(status), "{what}: {next:?}");
             assert!(folder.read(NAME) == made(), "{what}");
@@ -645,15 +674,26 @@ fn killed_at_each_step_of_making() {
 }
 
 #[test]
-fn failing_at_each_step_of_making() {
+fn killed_at_each_step_of_making() {
+    killed_at_each_step(make);
+}
+
+#[test]
+fn killed_at_each_step_of_rescuing() {
+    let elsewhere = Elsewhere::new();
+    killed_at_each_step(|folder| elsewhere.rescue(folder));
+    elsewhere.is_as_it_was();
+}
+
+fn failing_at_each_step(making: impl Fn(&Folder) -> Command) {
     let folder = Folder::new();
-    let calls = calls(&mut make(&folder));
+    let calls = calls(&mut making(&folder));
     let link = first(&calls, "linkat");
     for (n, call) in (1..).zip(&calls) {
         for errno in [libc::ENOSPC, libc::EIO, libc::EPERM] {
             let what = format!("error {errno} of call {n}, {call}");
             let _ = fs::remove_file(folder.path(NAME));
-            let run = at(&mut make(&folder), n, Fault::Fail(errno));
+            let run = at(&mut making(&folder), n, Fault::Fail(errno));
             let there = folder.path(NAME).exists();
             match run.status {
                 // Without the second name a rename serves.
@@ -664,7 +704,7 @@ fn failing_at_each_step_of_making() {
             }
             assert!(!there || folder.read(NAME) == made(), "{what}");
             if call.starts_with("unlink") {
-                assert_eq!(Run::of(&mut make(&folder)).status, Some(2)); // clears up
+                assert_eq!(Run::of(&mut making(&folder)).status, Some(2)); // clears up
             }
             assert_eq!(
                 folder.names(),
@@ -675,15 +715,26 @@ fn failing_at_each_step_of_making() {
     }
 }
 
-/// Another program makes a file of this name while a run makes the shelf: it is not replaced.
 #[test]
-fn made_meanwhile() {
+fn failing_at_each_step_of_making() {
+    failing_at_each_step(make);
+}
+
+#[test]
+fn failing_at_each_step_of_rescuing() {
+    let elsewhere = Elsewhere::new();
+    failing_at_each_step(|folder| elsewhere.rescue(folder));
+    elsewhere.is_as_it_was();
+}
+
+/// Another program makes a file of this name while a run makes the shelf: it is not replaced.
+fn made_by_another_program(making: impl Fn(&Folder) -> Command) {
     let folder = Folder::new();
-    let calls = calls(&mut make(&folder));
+    let calls = calls(&mut making(&folder));
     for n in 1..=first(&calls, "linkat") {
         fs::remove_file(folder.path(NAME)).unwrap();
         let run = at(
-            &mut make(&folder),
+            &mut making(&folder),
             n,
             Fault::Run("echo precious >articles.shelf"),
         );
@@ -694,10 +745,27 @@ fn made_meanwhile() {
 }
 
 #[test]
+fn made_meanwhile() {
+    made_by_another_program(make);
+}
+
+#[test]
+fn made_while_rescuing() {
+    let elsewhere = Elsewhere::new();
+    made_by_another_program(|folder| elsewhere.rescue(folder));
+    elsewhere.is_as_it_was();
+}
+
+#[test]
 fn made_once_by_eight_processes() {
     let folder = Folder::new();
+    let elsewhere = Elsewhere::new();
     for _ in 0..5 {
-        let mut commands: Vec<Command> = (0..8).map(|_| make(&folder)).collect();
+        let making = |process| match process % 2 {
+            0 => make(&folder),
+            _ => elsewhere.rescue(&folder),
+        };
+        let mut commands: Vec<Command> = (0..8).map(making).collect();
         let quiet = |command: &mut Command| {
             command
                 .stdout(Stdio::null())
@@ -715,4 +783,5 @@ fn made_once_by_eight_processes() {
         assert!(folder.read(NAME) == made() && folder.names() == [NAME]);
         fs::remove_file(folder.path(NAME)).unwrap();
     }
+    elsewhere.is_as_it_was();
 }

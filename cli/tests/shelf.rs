@@ -11,7 +11,7 @@ use std::{
 
 use common::{as_user, Folder, Run};
 use lexicon::{Cd, Record};
-use shelf_tools::{record, shelf_of, Chance};
+use shelf_tools::{numbered_as_typed, record, shelf_of, Chance};
 
 const SHELF: [&str; 5] = ["x", "x3o4o", "x5o3o", "(1.5)3q", "x3o3o *b3o"];
 
@@ -237,7 +237,8 @@ fn cut() {
         let said = format!(
             "bad.shelf: its length, {cut} bytes, is no multiple of 370\n  \
              {} whole places and {} bytes: a shelf that was cut, or no shelf\n  \
-             refusal 18. Take the file from a copy: a shelf has 370 bytes a place.\n",
+             refusal 18. Take the file from a copy, or keep its whole places with \
+             `lexicon shelf rescue`: a shelf has 370 bytes a place.\n",
             cut / 370,
             cut % 370
         );
@@ -245,8 +246,8 @@ fn cut() {
     }
 }
 
-const COPY: &str =
-    "  refusal 19. Take the file from a copy, or make it anew with `lexicon shelf make`.\n";
+const COPY: &str = "  refusal 19. Take the file from a copy, make it anew with \
+                    `lexicon shelf make`, or keep what can be kept with `lexicon shelf rescue`.\n";
 
 #[test]
 fn gibberish() {
@@ -269,15 +270,15 @@ fn gibberish() {
 
 #[test]
 fn numbered_badly() {
-    let mut sent = [0; Record::LEN]; // x4o, numbered as it was typed
-    sent[..4].copy_from_slice(&[2, 2, 0x3f, 0xf0]);
-    (sent[10], sent[85], sent[89]) = (1, 4, 1);
     let said = format!(
         "bad.shelf: place 1 has no record\n  \
          byte 370 of the file and on: 02 02 3f f0 00 00 00 00 00 00 ...\n  \
          refusal 22: record well laid out, but not the smallest numbering: file the figure's text again\n{COPY}"
     );
-    refused(&[*record("x").as_bytes(), sent].concat(), &said);
+    refused(
+        &[*record("x").as_bytes(), numbered_as_typed()].concat(),
+        &said,
+    );
 }
 
 #[test]

@@ -15,8 +15,8 @@ use super::{
 };
 
 /// Removes what a killed run has left, after waiting for a run that still lives. `held` is a file
-/// that this run has locked: a killed `make` can leave the shelf and the temporary name as one file,
-/// for whose lock this run would wait for ever.
+/// that this run has locked: a run killed while it named a new shelf can leave the shelf and the
+/// temporary name as one file, for whose lock this run would wait for ever.
 pub fn clear(path: &Path, shelf: &Path, held: Option<&Metadata>) -> io::Result<()> {
     let found = match fs::symlink_metadata(path) {
         Err(e) if e.kind() == ErrorKind::NotFound => return Ok(()),

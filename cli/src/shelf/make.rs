@@ -2,20 +2,14 @@
 
 use std::{
     collections::{btree_map::Entry, BTreeMap},
-    fs,
-    io::{self, ErrorKind, Write},
+    io::{self, Write},
     path::Path,
 };
 
 use clap::ArgMatches;
 use lexicon::{Record, Shelf};
 
-use super::{
-    folder::Folder,
-    fresh::{self, Fresh},
-    replace::unsure,
-    system, tell_size,
-};
+use super::{new::New, tell_size};
 use crate::{
     lines::Lines,
     output::{Failure, Outcome, Output, Status},
@@ -24,30 +18,20 @@ use crate::{
 };
 
 pub fn run(path: &Path, arguments: &ArgMatches, out: &mut Output) -> Outcome {
-    system::survive_file_size_limit();
-    let folder = Folder::of(path).map_err(|e| Failure::of_file(path, e))?;
-    let temporary = folder.temporary();
-    fresh::clear(&temporary, path, None).map_err(|e| Failure::of_file(&temporary, e))?;
-    if fs::symlink_metadata(folder.shelf()).is_ok() {
-        return Err(in_the_way(path)); // before a long list is read
-    }
+    let new = New::of(path, "`lexicon shelf add` adds to a shelf")?;
+    new.clear()?; // before a long list is read
     let list = List::read(texts::infinite(arguments), out)?;
     if list.refused > 0 {
         writeln!(out, "{}: not made", path.display())?;
         return Ok(Status::Wrong);
     }
     let shelf = list.shelf()?;
-    write(path, &folder, &shelf)?;
+    new.write(&shelf)?;
     tell_size(path, &shelf, out)?;
     Ok(match list.twice {
         0 => Status::Fine,
         _ => Status::Wrong,
     })
-}
-
-fn in_the_way(path: &Path) -> Failure {
-    let what = "is there already, and is left as it is; `lexicon shelf add` adds to a shelf";
-    Failure::of_file(path, what)
 }
 
 /// The figures of a list.
@@ -114,21 +98,4 @@ impl List {
         let refused = |e| Failure::Said(format!("the library refuses the sorted records: {e}"));
         Shelf::new(bytes).map_err(refused)
     }
-}
-
-/// Writes a new file whole beside the place where it will be, and then names it.
-fn write(path: &Path, folder: &Folder, shelf: &Shelf) -> Result<(), Failure> {
-    let failed = |e: io::Error| Failure::of_file(path, format!("{e}; it was not made"));
-    let temporary = folder.temporary();
-    let mut fresh = Fresh::make(&temporary, path, None, 0o666).map_err(failed)?;
-    fresh.write(shelf.as_bytes()).map_err(failed)?;
-    fresh.name(&folder.shelf()).map_err(|e| match e.kind() {
-        ErrorKind::AlreadyExists => in_the_way(path),
-        _ => failed(e),
-    })?;
-    fresh.remove().map_err(|e| {
-        let what = format!("was made, but {} is left: {e}", temporary.display());
-        Failure::of_file(path, what)
-    })?;
-    folder.flush().map_err(|e| unsure(path, &e))
 }

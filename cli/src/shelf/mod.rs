@@ -7,7 +7,10 @@ mod folder;
 mod fresh;
 mod lock;
 mod make;
+mod new;
 mod replace;
+mod rescue;
+mod rescued;
 mod system;
 
 use std::{
@@ -27,8 +30,11 @@ use crate::{
 
 pub fn run(arguments: &ArgMatches, out: &mut Output) -> Outcome {
     let (name, arguments) = arguments.subcommand().unwrap_or(("", arguments));
-    let path = arguments.try_get_one::<PathBuf>("FILE").ok().flatten();
-    match (name, path) {
+    let path = |name| arguments.try_get_one::<PathBuf>(name).ok().flatten();
+    if let ("rescue", Some(old), Some(new)) = (name, path("OLD"), path("NEW")) {
+        return rescue::run(old, new, out);
+    }
+    match (name, path("FILE")) {
         ("check", Some(path)) => check(path, out),
         ("find", Some(path)) => find::run(path, arguments, out),
         ("add", Some(path)) => add::run(path, arguments, out),

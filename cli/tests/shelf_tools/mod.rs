@@ -49,6 +49,14 @@ pub fn shelf_of<'a>(texts: impl IntoIterator<Item = &'a str>) -> Vec<u8> {
     Shelf::new(bytes).unwrap().into_bytes()
 }
 
+/// Bytes of `x4o`, numbered as it was typed and not as it is filed.
+pub fn numbered_as_typed() -> [u8; Record::LEN] {
+    let mut bytes = [0; Record::LEN];
+    bytes[..4].copy_from_slice(&[2, 2, 0x3f, 0xf0]);
+    (bytes[10], bytes[85], bytes[89]) = (1, 4, 1);
+    bytes
+}
+
 /// Numbers by chance, the same in each run.
 pub struct Chance(pub u64);
 
