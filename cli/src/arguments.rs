@@ -178,16 +178,15 @@ Example:
 
 const SHELF_RESCUE: &str = "\
 OLD, a shelf that was damaged or cut, is only read. NEW, which must not be there, gets each record
-that can be read and is greater than the last one kept. On each other place there is a line: the
-refusal if it can't be read; else that it is out of order and, unless a place that is kept has the
-same record, a tab and a text of its figure. Bytes behind the last whole place are not kept.
+that can be read and is greater than the last one kept. On each other place there is a line: that
+it can't be read, and the refusal; or that it is out of order and, unless a place that is kept has
+the same record, a tab and a text of its figure. Bytes behind the last whole place are not kept.
 
 A damaged record may still be read, as another figure. If that is too great, it is kept, and good
 places behind it are out of order, often many in a row; so it is told which place they are less
 than, and what stands there. Of what is out of order, add the texts that are right with `lexicon
 shelf add`. If a record that is kept is wrong, make the shelf anew of the right texts, with `lexicon
-shelf list` and `lexicon shelf make`. What can't be read is filed again by its article's text, and
-`lexicon shelf find` tells which texts are missing.
+shelf list` and `lexicon shelf make`. What can't be read is filed again by its article's text.
 
 Exit status: 0 if all was kept, 1 if a place or the bytes behind the last one were not, 2 for a
 failure.
@@ -196,9 +195,10 @@ Example:
   $ (tail -c 740 articles.shelf; printf %370s; head -c 500 articles.shelf) >old.shelf
   $ lexicon shelf rescue old.shelf new.shelf
   old.shelf: 2 places not kept:
-    2  refusal 14
+    2  can't be read, refusal 14
     3  out of order, less than place 1	x
   refusal 14: record not the layout of any diagram: bad count, kind, value, fraction or filler
+  can't be read: `lexicon shelf find new.shelf TEXT...` tells which texts are missing
   out of order: still in old.shelf; `lexicon shelf add new.shelf TEXT...` adds those that are right
   kept before them, and perhaps damaged and too great:
     place 1: x3o4o

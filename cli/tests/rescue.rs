@@ -26,6 +26,8 @@ const REFUSAL_14: &str =
     "refusal 14: record not the layout of any diagram: bad count, kind, value, fraction or filler\n";
 const REFUSAL_22: &str = "refusal 22: record well laid out, but not the smallest numbering: \
                           file the figure's text again\n";
+const UNREADABLE: &str =
+    "can't be read: `lexicon shelf find new.shelf TEXT...` tells which texts are missing\n";
 const OUT_OF_ORDER: &str = "out of order: still in old.shelf; \
                             `lexicon shelf add new.shelf TEXT...` adds those that are right\n\
                             kept before them, and perhaps damaged and too great:\n";
@@ -99,15 +101,15 @@ fn a_damaged_shelf() {
     bytes.extend([7; 123]);
     let said = format!(
         "old.shelf: 8 places not kept:\n   \
-         1  refusal 14\n   \
-         3  refusal 22\n   \
+         1  can't be read, refusal 14\n   \
+         3  can't be read, refusal 22\n   \
          5  out of order, equal to place 2\n   \
          6  out of order, less than place 4\t(1.5)3q\n   \
-         7  refusal 14\n   \
+         7  can't be read, refusal 14\n   \
          8  out of order, equal to place 4\n  \
          10  out of order, equal to place 0\n  \
          11  out of order, less than place 9\tx3o3o\n\
-         {REFUSAL_14}{REFUSAL_22}{OUT_OF_ORDER}  place 4: x3o4o\n  place 9: x3o3o *b3o\n\
+         {REFUSAL_14}{REFUSAL_22}{UNREADABLE}{OUT_OF_ORDER}  place 4: x3o4o\n  place 9: x3o3o *b3o\n\
          old.shelf: the last 123 bytes are no whole place, and not kept\n\
          new.shelf: 4 of 12 places kept\n"
     );
@@ -118,8 +120,8 @@ fn a_damaged_shelf() {
 #[test]
 fn nothing_that_can_be_kept() {
     let said = format!(
-        "old.shelf: 2 places not kept:\n  0  refusal 14\n  1  refusal 22\n\
-         {REFUSAL_14}{REFUSAL_22}new.shelf: 0 of 2 places kept\n"
+        "old.shelf: 2 places not kept:\n  0  can't be read, refusal 14\n  1  can't be read, refusal 22\n\
+         {REFUSAL_14}{REFUSAL_22}{UNREADABLE}new.shelf: 0 of 2 places kept\n"
     );
     let bytes = [GIBBERISH, numbered_as_typed()].concat();
     rescued(&bytes, 1, &said, &[]);

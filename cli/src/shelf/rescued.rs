@@ -31,7 +31,7 @@ impl Rescued<'_> {
         if !left.is_empty() {
             writeln!(out, "{old}: {} not kept:", places(left.len()))?;
             write_rows(&left, out)?;
-            explain(&left, out)?;
+            self.explain_refusals(&left, out)?;
             self.advise(&left, out)?;
         }
         match self.rescue.tail {
@@ -91,6 +91,26 @@ impl Rescued<'_> {
         line_of(&self.record(place))
     }
 
+    /// What each refusal in the rows means, and how the texts are found that are to be filed again.
+    fn explain_refusals(&self, left: &[NotKept], out: &mut Output) -> io::Result<()> {
+        let refusals = left.iter().filter_map(|left| match left.why {
+            Why::Refused(refusal) => Some((refusal.number(), refusal)),
+            _ => None,
+        });
+        let refusals: BTreeMap<u32, CdError> = refusals.collect();
+        for (number, refusal) in &refusals {
+            writeln!(out, "refusal {number}: {refusal}")?;
+        }
+        if !refusals.is_empty() {
+            let new = self.new.display();
+            writeln!(
+                out,
+                "can't be read: `lexicon shelf find {new} TEXT...` tells which texts are missing"
+            )?;
+        }
+        Ok(())
+    }
+
     /// How what is out of order is added again, and what to look at first: a damaged record that can
     /// still be read may be too great, so that good ones behind it are out of order.
     fn advise(&self, left: &[NotKept], out: &mut Output) -> io::Result<()> {
@@ -135,7 +155,7 @@ enum Why {
 impl fmt::Display for Why {
     fn fmt(&self, f: &mut fmt::Formatter<'_>) -> fmt::Result {
         match self {
-            Self::Refused(refusal) => write!(f, "refusal {}", refusal.number()),
+            Self::Refused(refusal) => write!(f, "can't be read, refusal {}", refusal.number()),
             Self::Equal { to } => write!(f, "out of order, equal to place {to}"),
             Self::Less { than, .. } => write!(f, "out of order, less than place {than}"),
         }
@@ -155,19 +175,6 @@ fn write_rows(left: &[NotKept], out: &mut Output) -> io::Result<()> {
             Why::Less { text, .. } => writeln!(out, "{:why_width$}\t{text}", why.to_string())?,
             _ => writeln!(out, "{why}")?,
         }
-    }
-    Ok(())
-}
-
-/// What each refusal in the rows means.
-fn explain(left: &[NotKept], out: &mut Output) -> io::Result<()> {
-    let refusals = left.iter().filter_map(|left| match left.why {
-        Why::Refused(refusal) => Some((refusal.number(), refusal)),
-        _ => None,
-    });
-    let refusals: BTreeMap<u32, CdError> = refusals.collect();
-    for (number, refusal) in refusals {
-        writeln!(out, "refusal {number}: {refusal}")?;
     }
     Ok(())
 }
