@@ -184,9 +184,10 @@ the same record, a tab and a text of its figure. Bytes behind the last whole pla
 
 A damaged record may still be read, as another figure. If that is too great, it is kept, and good
 places behind it are out of order, often many in a row; so it is told which place they are less
-than, and what stands there. Of what is out of order, add the texts that are right with `lexicon
-shelf add`. If a record that is kept is wrong, make the shelf anew of the right texts, with `lexicon
-shelf list` and `lexicon shelf make`. What can't be read is filed again by its article's text.
+than, and what stands there. `lexicon shelf add` adds those that are right. If they are many, or if
+a record that is kept is wrong, make the shelf anew of the right texts. REPORT is what was told:
+  (lexicon shelf list NEW; cat REPORT) | cut -sf 2 | grep -vxF WRONG | lexicon shelf make NEWER
+What can't be read is filed again by its article's text.
 
 Exit status: 0 if all was kept, 1 if a place or the bytes behind the last one were not, 2 for a
 failure.

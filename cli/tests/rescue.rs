@@ -160,6 +160,22 @@ fn a_place_that_is_too_great() {
     assert_eq!(folder.read("new.shelf"), shelf_of(texts));
 }
 
+/// As the help tells.
+#[test]
+fn made_anew_without_a_wrong_record() {
+    let texts = ["x3o", "x5o", "x6o", "x3o3o *b3o"];
+    let mut bytes = shelf_of(["x3o", "x4o", "x5o", "x6o", "x3o3o *b3o"]);
+    bytes[Record::LEN..2 * Record::LEN].copy_from_slice(&bytes_of("x3o3x"));
+    let folder = with_old(bytes);
+    folder.write("report", rescue(&folder).out);
+    let run = folder.script(
+        "(lexicon shelf list new.shelf; cat report) | cut -sf 2 | grep -vxF x3o3x \
+         | lexicon shelf make newer.shelf",
+    );
+    run.gives(0, "newer.shelf: 4 places\n", "");
+    assert_eq!(folder.read("newer.shelf"), shelf_of(texts));
+}
+
 #[test]
 fn a_record_without_a_text() {
     let mut snub = bytes_of("s3o");

@@ -58,7 +58,8 @@ impl Shelf {
     ///
     /// [`CdError::ShelfLength`] if their number is no multiple of 370, else [`CdError::ShelfPlace`]
     /// with the first place that can't be read or is not greater than the one before. Either drops
-    /// the bytes of a `Vec`; a caller who wants to keep them lends a slice.
+    /// the bytes of a `Vec`; a caller who wants to keep them, for [`Shelf::rescue`] for instance,
+    /// lends a slice.
     ///
     /// ```
     /// use lexicon::{Cd, CdError, Record, Shelf};
@@ -105,7 +106,7 @@ impl Shelf {
     /// assert!(Shelf::rescue(&file).all_kept());
     ///
     /// file[Record::LEN] = 255; // the second record is damaged,
-    /// file.extend_from_within(..500); // and behind the third come the first and a part of it
+    /// file.extend_from_within(..500); // and behind the third come the first again and 130 bytes
     /// let rescue = Shelf::rescue(&file);
     /// assert!(rescue.shelf.records().eq([Cd::parse("x")?.record(), Cd::parse("x4o3o")?.record()]));
     /// let refused = PlaceMark::Refused(CdError::NoDiagram);
