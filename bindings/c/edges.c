@@ -961,8 +961,8 @@ static void rescue_over(uint8_t fill, bool null)
     check(number == wanted[0], "it returns another number");
     check(memcmp(answer, wanted, LEXICON_ANSWER * sizeof *answer) == 0, "its answer is another");
     check(filled(answer + LEXICON_ANSWER, fill, SPARE * sizeof *answer), "it writes past its answer");
-    check(begins(copied, given_out, due.file, fits ? LEXICON_RECORD * due.kept : 0, fill), "what it keeps is other, or it changes bytes that it should keep");
-    check(begins(marked, given_marks, due.marks, fits ? due.places : 0, fill), "its marks are others, or it changes bytes that it should keep");
+    check(begins(copied, given_out, due.file, fits ? LEXICON_RECORD * due.kept : 0, fill), "it keeps other records, or changes bytes that it should keep");
+    check(begins(marked, given_marks, due.marks, fits ? due.places : 0, fill), "its marks are others, or it changes marks that it should keep");
 }
 
 static void rescue_to(size_t out_len, size_t marks_len)
@@ -973,8 +973,8 @@ static void rescue_to(size_t out_len, size_t marks_len)
     rescue_over(0x5a, true);
 }
 
-// To buffers that are full. What is kept is a shelf.
-static void expect_rescued(const uint8_t *file, size_t len)
+// What is kept is a shelf.
+static void expect_rescue_to_full_buffers(const uint8_t *file, size_t len)
 {
     fill_due(file, len);
     expect_answer(&shelf_check, file_alone(due.file, LEXICON_RECORD * due.kept), ANSWER(0, due.kept));
@@ -983,10 +983,10 @@ static void expect_rescued(const uint8_t *file, size_t len)
     rescue_to(len, due.places);
 }
 
-// Also to longer buffers, and to buffers that are too short: by one, by the tail, or so that only what is kept would fit.
+// To buffers that are full, longer, and too short: by one, by the tail, or so that only what is kept would fit.
 static void expect_rescue(const uint8_t *file, size_t len)
 {
-    expect_rescued(file, len);
+    expect_rescue_to_full_buffers(file, len);
     size_t lengths[] = {len, len + SPARE, 0, LEXICON_RECORD * due.kept, LEXICON_RECORD * due.places, len > 0 ? len - 1 : 0};
     size_t counts[] = {due.places, due.places + SPARE, 0, due.places > 0 ? due.places - 1 : 0};
     for (size_t i = 0; i < LEN(lengths); i++)
@@ -1051,7 +1051,7 @@ static void rescued_damage(void)
         for (size_t k = 0; k < LEN(flips); k++) {
             memcpy(file, shelf, sizeof file);
             file[i] ^= flips[k];
-            expect_rescued(file, sizeof file);
+            expect_rescue_to_full_buffers(file, sizeof file);
             for (size_t at = 0; at < PLACES; at++)
                 check(at == i / LEXICON_RECORD || due.marks[at] <= (at > i / LEXICON_RECORD), "a place beside the damaged one is lost");
         }
