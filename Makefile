@@ -96,7 +96,7 @@ claims:
 	@docs/check_claims.py
 
 # At -O3, as rt compiles. The plain C of the root, the cosine and the walls takes the machine's instruction for the root; that of the first two may call nothing.
-BENCH = bench.c timing.c reading.c figure.c filing.c filing_plain.c shelf.c shelf_figures.c cox.c names.c names_plain.c float.c command.c
+BENCH = bench.c timing.c reading.c figure.c filing.c filing_plain.c shelf.c shelf_figures.c rescue.c cox.c names.c names_plain.c float.c command.c
 bench: libs oracle cli
 	@python3 oracle/corpus.py long >target/long.txt
 	@bench/headwords 1000000 1 >target/headwords.txt

@@ -1,5 +1,5 @@
 // The calls on a shelf of 100,000 records of real figures, beside plain C: a check of the whole, and by numbers of nodes; a record found, bisected
-// for and added. Before anything is measured, what the calls answer on that shelf is compared with what qsort and the plain C make.
+// for and added; rescue.c has its rescue. Before anything is measured, what the calls answer on that shelf is compared with what qsort and the plain C make.
 #include <stdio.h>
 #include <stdlib.h>
 #include <string.h>
@@ -319,6 +319,7 @@ void shelf_rows(void)
     put_seek("shelf bisect", lexicon_shelf_bisect, bisect_plain, "`bsearch` alone", 100);
     const uint8_t *record = record_at(&all, LEFT_OUT);
     put_row(&(struct row){"shelf add", "100,000 places", {run_add, record}, {run_put_in, record}, "`memcpy` alone", 1});
+    rescue_rows(&most);
     free(all.file);
     free(most.file);
     free(out);

@@ -14,4 +14,7 @@ struct shelf {
 // So many records, of figures that shelf_figures.c lists. Ends the program if it has not as many.
 void make_shelf(struct shelf *shelf, size_t places);
 
+// The rows of a rescue of it (rescue.c).
+void rescue_rows(const struct shelf *shelf);
+
 #endif

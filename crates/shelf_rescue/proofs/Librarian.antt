@@ -158,8 +158,8 @@ shelf-intact {N} {file} {out} {marks} {out′} {marks′} {r} {d} check ok fits 
 
 -- ---- BYTES DAMAGED INSIDE ONE PLACE NEVER MAKE ANOTHER UNREADABLE
 
-undamaged : (w : ℕ) (l m : List ℕ) (i j : ℕ) → DamagedAt w i l m → j ≢ i → w * suc i ≤ length l → placeAt w m j ≡ placeAt w l j
-undamaged w l m i j d ne h = go (decLt j i)
+undamaged : (w : ℕ) (l m : List ℕ) (n i j : ℕ) → DamagedAt w i l m → w * n ≤ length l → i ≤ n → j < n → j ≢ i → placeAt w m j ≡ placeAt w l j
+undamaged w l m n i j d fits hi hj ne = go (decLt j i)
   where
     cut : (z : List ℕ) → w * suc i ≤ length z → i < j → placeAt w z j ≡ placeAt w (drop (w * suc i) z) (j - suc i)
     cut z f g =
@@ -169,20 +169,22 @@ undamaged w l m i j d ne h = go (decLt j i)
 
     go : Dec (j < i) → placeAt w m j ≡ placeAt w l j
     go (yes b) =
+        let h : w * i ≤ w * n = mul-le-mul-left w hi in
         sym (place-in-front w m i j b (omega (arith, d .same-length))) ∙ ap (λ z. placeAt w z j) (d .before) ∙ place-in-front w l i j b (omega arith)
     go (no b) =
         let g : i < j = omega arith in
-        cut m (omega (arith, d .same-length)) g ∙ ap (λ z. placeAt w z (j - suc i)) (d .behind) ∙ sym (cut l h g)
+        let h : w * suc i ≤ w * n = mul-le-mul-left w (omega arith) in
+        cut m (omega (arith, d .same-length)) g ∙ ap (λ z. placeAt w z (j - suc i)) (d .behind) ∙ sym (cut l (omega arith) g)
 
--- a file and the same after damage inside place i of n, each rescued into any buffers: the mark of any other place stays what it was, or says in both that it can be read
+-- a file of n places and the same after damage inside place i, or inside its tail where i is n, each rescued into any buffers: the mark of any other place stays what it was,
+-- or says in both that it can be read
 pub damage-stays : {N : ℕ} {file damaged out marks out′ marks′ other-out other-marks other-out′ other-marks′ : List ℕ} {r q : Rescued}
     → Rescues N file out marks out′ marks′ r → r .answer ≡ said.Accepted → Rescues N damaged other-out other-marks other-out′ other-marks′ q → q .answer ≡ said.Accepted
-    → {n t i : ℕ} → Cut N file n t → i < n → DamagedAt (recordLength N) i file damaged → (j : ℕ) → j < n → j ≢ i
+    → {n t i : ℕ} → Cut N file n t → i ≤ n → DamagedAt (recordLength N) i file damaged → (j : ℕ) → j < n → j ≢ i
     → ((getD marks′ j 0 ≤ 1) × (getD other-marks′ j 0 ≤ 1)) ⊎ (getD marks′ j 0 ≡ getD other-marks′ j 0)
 damage-stays {N} {file} {damaged} a ok b sure {n} {t} {i} c hi d j h ne =
     let cut : Cut N damaged n t = record { long = d .same-length ∙ c .long; few = c .few } in
-    let k : recordLength N * suc i ≤ recordLength N * n = mul-le-mul-left (recordLength N) hi in
-    let same = undamaged (recordLength N) file damaged i j d ne (omega (arith, c .long)) in
+    let same = undamaged (recordLength N) file damaged n i j d (omega (arith, c .long)) hi h ne in
     let ms = known b sure cut .ms in
     let mark = subst (λ z. Mark N (lastCopied (recordLength N) damaged ms j) z (getD ms j 0)) same (known b sure cut .marked .each j h) in
     subst₂ (λ x y. ((x ≤ 1) × (y ≤ 1)) ⊎ (x ≡ y)) (sym (mark-there a ok c j h)) (sym (mark-there b sure cut j h)) (mark-elsewhere (known a ok c .marked .each j h) mark)

@@ -5,7 +5,7 @@ use mathlib.Core.Path.{_≡_}
 use Prim.Native.Nat.{ℕ, suc, _*_}
 use lib.ListN.{length, take, drop}
 
--- the two files differ only "inside one place", the i-th of w bytes
+-- the two files differ only "inside one place", place i of w bytes, or inside the tail where no whole place i is
 pub record DamagedAt (w i : ℕ) (file damaged : List ℕ) : Type 0 where
   pub same-length : length damaged ≡ length file
   pub before : take (w * i) damaged ≡ take (w * i) file
