@@ -96,22 +96,18 @@ static uint8_t *bytes(size_t length)
     return made;
 }
 
-void rescue_rows(const struct shelf *shelf)
+void rescue_rows(const struct shelf *shelf, uint8_t *out)
 {
     size_t places = shelf->places, length = places * RECORD;
-    uint8_t *file = bytes(length + TAIL);
-    struct rescuing ours = {lexicon_shelf_rescue, file, length, bytes(length + TAIL), bytes(places)};
-    struct rescuing other = {rescue_plain, file, length, bytes(length + TAIL), bytes(places)};
-    memcpy(file, shelf->file, length);
+    struct rescuing ours = {lexicon_shelf_rescue, shelf->file, length, out, bytes(places)};
+    struct rescuing other = {rescue_plain, shelf->file, length, bytes(length + RECORD), bytes(places)};
     demand_same(&ours, &other);
     put_row(&(struct row){"shelf rescue, a place", "a shelf of 100,000 places", {run_rescue, &ours}, {run_rescue, &other}, "plain C", (double)places});
     put_row(&(struct row){"shelf rescue, a place", "a shelf of 100,000 places", {run_rescue, &ours}, {run_check, &ours}, "`lexicon_shelf_check`", (double)places});
-    damage(file, places);
+    damage(shelf->file, places);
     ours.length = other.length = length + TAIL;
     demand_same(&ours, &other);
     put_row(&(struct row){"shelf rescue, a place", "two in ten bad, and a tail", {run_rescue, &ours}, {run_rescue, &other}, "plain C", (double)places});
-    free(file);
-    free(ours.out);
     free(ours.marks);
     free(other.out);
     free(other.marks);

@@ -307,7 +307,7 @@ static void check_all(void)
 void shelf_rows(void)
 {
     make_shelf(&all, PLACES + 1);
-    most.file = malloc(PLACES * RECORD);
+    most.file = malloc((PLACES + 1) * RECORD);
     out = malloc(room);
     if (!most.file || !out)
         fail("shelf", "100,000 places", "no memory");
@@ -319,8 +319,8 @@ void shelf_rows(void)
     put_seek("shelf bisect", lexicon_shelf_bisect, bisect_plain, "`bsearch` alone", 100);
     const uint8_t *record = record_at(&all, LEFT_OUT);
     put_row(&(struct row){"shelf add", "100,000 places", {run_add, record}, {run_put_in, record}, "`memcpy` alone", 1});
-    rescue_rows(&most);
-    free(all.file);
+    free(all.file); // the command, measured later, counts what this process had at the most
+    rescue_rows(&most, out);
     free(most.file);
     free(out);
 }

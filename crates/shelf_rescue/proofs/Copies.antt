@@ -2,14 +2,14 @@
 -- shelf every place is greater than whichever was copied before it, so that none is passed over. Assumes nothing.
 use mathlib.Core.Bool.{Bool, true, false}
 use mathlib.Core.List.{List, [], _++_, append-nil}
-use mathlib.Core.Path.{_≡_, refl, sym, ap, ap₂, _∙_, subst}
+use mathlib.Core.Path.{_≡_, refl, sym, ap, _∙_, subst}
 use Prim.Native.Nat.{ℕ, zero, suc, _+_, _*_, _≤_, _<_}
 use native.Mathlib.Nat.{add-zero, le-refl, not-suc-le-zero}
 use native.Mathlib.Numerals.{add-one}
 use native.Mathlib.Omega.{arith}
 use lib.Dec.{eqb}
-use lib.ListN.{length, getD, take, drop, replicate, length-replicate, getD-replicate}
-use lib.Seq.{take-add, take-all, take-length, drop-length, ext-getD}
+use lib.ListN.{getD, replicate, length-replicate, getD-replicate}
+use lib.Seq.{take-all, ext-getD}
 use borrow.Author.Tests.{eqb-true}
 use Rattle.float.specs.Pick.{pick}
 use Rattle.filing.specs.Bytes.{_≼_, blocks}
@@ -23,6 +23,7 @@ use Rattle.records.proofs.Compared.{nothing-below}
 use Rattle.shelf.specs.Finds.{Sound}
 use Rattle.shelf.specs.Shelves.{_≺_, placeAt, Shelf, Absent, inserted}
 use Rattle.shelf.proofs.Adding.{added-passes, new-present, old-before}
+use Rattle.shelf.proofs.Places.{places-end-to-end, inserted-end}
 use Rattle.shelf.proofs.Rising.{≺-≼, ≼-≺-trans, rising}
 use Rattle.shelf.proofs.Tested.{readable-length, refused-unreadable}
 use Rattle.shelf_rescue.specs.Rescues.{isKept, lastCopied, copied, Mark, kept, out-of-order, unread, Marked}
@@ -37,11 +38,6 @@ pub record ShelfUpTo (N : ℕ) (l : List ℕ) (n : ℕ) (last : List ℕ) : Type
 
 no-places : {N : ℕ} → ShelfUpTo N [] 0 []
 no-places = record { shelf = record { whole = omega arith; right = λ i h. absurd (not-suc-le-zero h) }; up-to = λ i h. absurd (not-suc-le-zero h) }
-
-inserted-end : (w : ℕ) (l : List ℕ) (n : ℕ) (x : List ℕ) → length l ≡ w * n → inserted w l n x ≡ l ++ x
-unfolding inserted
-inserted-end w l n x e =
-    ap (λ k. take k l ++ (x ++ drop k l)) (sym e) ∙ ap₂ (λ a b. a ++ (x ++ b)) (take-length l) (drop-length l) ∙ ap (λ z. l ++ z) (append-nil x)
 
 module _ {N : ℕ} {l : List ℕ} {n : ℕ} {last x : List ℕ} (s : ShelfUpTo N l n last) (readable : Readable N x) (greater : last ≺ x) where
   sound : Sound N l x n
@@ -92,13 +88,6 @@ module _ {N : ℕ} {l : List ℕ} {n : ℕ} (s : Shelf N l n) where
       go true e = rising (s .right) i j h k
       go false e = e
 
-  places-end-to-end : (i : ℕ) → i ≤ n → blocks place i ≡ take (recordLength N * i) l
-  unfolding blocks placeAt
-  places-end-to-end zero h = let e : recordLength N * 0 ≡ 0 = omega arith in rw e
-  places-end-to-end (suc i) h =
-      let e : recordLength N * i + recordLength N ≡ recordLength N * suc i = omega arith in
-      ap (λ z. z ++ place i) (places-end-to-end i (omega arith)) ∙ sym (take-add (recordLength N * i) (recordLength N) l) ∙ ap (λ k. take k l) e
-
   module _ {ms : List ℕ} (t : Marked N l n ms) where
     mark-0 : (i : ℕ) → i < n → getD ms i 0 ≡ 0
     mark-0 i h = go (t .each i h)
@@ -113,7 +102,7 @@ module _ {N : ℕ} {l : List ℕ} {n : ℕ} (s : Shelf N l n) where
 
     pub all-copied : copied (recordLength N) l ms n ≡ l
     all-copied =
-        blocks-same _ _ n (λ i h. ap (λ m. pick (eqb m 0) (place i) []) (mark-0 i h)) ∙ places-end-to-end n (le-refl n)
+        blocks-same _ _ n (λ i h. ap (λ m. pick (eqb m 0) (place i) []) (mark-0 i h)) ∙ places-end-to-end (recordLength N) l n
         ∙ take-all (recordLength N * n) l (omega (arith, s .whole))
 
     pub all-counted : count (isKept ms) n ≡ n

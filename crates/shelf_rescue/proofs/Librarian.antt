@@ -6,8 +6,8 @@ use Prim.Native.Nat.{ℕ, suc, _+_, _-_, _*_, _≤_, _<_}
 use native.Mathlib.Decide.{decLt}
 use native.Mathlib.Nat.{le-refl, mul-le-mul-left}
 use native.Mathlib.Omega.{arith}
-use lib.ListN.{length, getD, take, drop, replicate, List·getD-append, length-drop, take-append-drop}
-use lib.Seq.{length-take-le, take-at, drop-at}
+use lib.ListN.{length, getD, take, drop, replicate, List·getD-append}
+use lib.Seq.{take-at, drop-at}
 use Rattle.cd.specs.Refusals.{numberOf}
 use Rattle.cd.specs.declared.CdError.{CdError}
 use Rattle.filing.specs.Bytes.{written}
@@ -22,7 +22,7 @@ use Rattle.shelf.specs.Shelves.{placeAt, Shelf}
 use Rattle.shelf.specs.declared.Checked.{Checked}
 use Rattle.shelf.proofs.Once.{checks-once}
 use Rattle.shelf.proofs.Outcomes.{checked-right}
-use Rattle.shelf.proofs.Places.{place-in-front, place-right}
+use Rattle.shelf.proofs.Places.{place-in-front, place-behind, place-length}
 use Rattle.shelf_rescue.specs.Damage.{DamagedAt}
 use Rattle.shelf_rescue.specs.Rescues.{Cut, isKept, lastCopied, copied, Mark, kept, out-of-order, unread, Marked, Rescues, short, rescued}
 use Rattle.shelf_rescue.specs.declared.Rescued.{Rescued}
@@ -118,14 +118,10 @@ is-mark e (unread (not-smallest d ne)) = is-22
 
 module _ {N : ℕ} {file out marks out′ marks′ : List ℕ} {r : Rescued} (a : Rescues N file out marks out′ marks′ r) (ok : r .answer ≡ said.Accepted)
     {n t : ℕ} (c : Cut N file n t) where
-  place-length : (j : ℕ) → j < n → length (placeAt (recordLength N) file j) ≡ recordLength N
-  unfolding placeAt
-  place-length j h =
-      let k : recordLength N * suc j ≤ recordLength N * n = mul-le-mul-left (recordLength N) h in
-      length-take-le (recordLength N) (drop (recordLength N * j) file) (simp length-drop (omega (arith, c .long)))
-
   pub marks-known : (j : ℕ) → j < n → IsMark (getD marks′ j 0)
-  marks-known j h = subst IsMark (sym (mark-there a ok c j h)) (is-mark (place-length j h) (known a ok c .marked .each j h))
+  marks-known j h =
+      let fits : recordLength N * suc j ≤ recordLength N * n = mul-le-mul-left (recordLength N) h in
+      subst IsMark (sym (mark-there a ok c j h)) (is-mark (place-length (recordLength N) file j (omega (arith, c .long))) (known a ok c .marked .each j h))
 
 -- ---- A FILE THAT ALREADY PASSED COMES OUT UNCHANGED WITH EVERY PLACE KEPT
 
@@ -158,23 +154,18 @@ shelf-intact {N} {file} {out} {marks} {out′} {marks′} {r} {d} check ok fits 
 
 -- ---- BYTES DAMAGED INSIDE ONE PLACE NEVER MAKE ANOTHER UNREADABLE
 
-undamaged : (w : ℕ) (l m : List ℕ) (n i j : ℕ) → DamagedAt w i l m → w * n ≤ length l → i ≤ n → j < n → j ≢ i → placeAt w m j ≡ placeAt w l j
-undamaged w l m n i j d fits hi hj ne = go (decLt j i)
+undamaged : (w : ℕ) (l m : List ℕ) (i j : ℕ) → DamagedAt w i l m → w * i ≤ length l → j ≢ i → placeAt w m j ≡ placeAt w l j
+undamaged w l m i j d fits ne = go (decLt j i)
   where
-    cut : (z : List ℕ) → w * suc i ≤ length z → i < j → placeAt w z j ≡ placeAt w (drop (w * suc i) z) (j - suc i)
-    cut z f g =
-        let e : suc i + (j - suc i) ≡ j = omega arith in
-        ap (placeAt w z) (sym e) ∙ ap (λ y. placeAt w y (suc i + (j - suc i))) (sym (take-append-drop (w * suc i) z))
-        ∙ place-right w (take (w * suc i) z) (drop (w * suc i) z) (suc i) (j - suc i) (length-take-le (w * suc i) z f)
+    behind : (z : List ℕ) → i < j → placeAt w z j ≡ placeAt w (drop (w * suc i) z) (j - suc i)
+    behind z g = let e : j ≡ suc i + (j - suc i) = omega arith in ap (placeAt w z) e ∙ place-behind w z (suc i) (j - suc i)
 
     go : Dec (j < i) → placeAt w m j ≡ placeAt w l j
     go (yes b) =
-        let h : w * i ≤ w * n = mul-le-mul-left w hi in
         sym (place-in-front w m i j b (omega (arith, d .same-length))) ∙ ap (λ z. placeAt w z j) (d .before) ∙ place-in-front w l i j b (omega arith)
     go (no b) =
         let g : i < j = omega arith in
-        let h : w * suc i ≤ w * n = mul-le-mul-left w (omega arith) in
-        cut m (omega (arith, d .same-length)) g ∙ ap (λ z. placeAt w z (j - suc i)) (d .behind) ∙ sym (cut l (omega arith) g)
+        behind m g ∙ ap (λ z. placeAt w z (j - suc i)) (d .behind) ∙ sym (behind l g)
 
 -- a file of n places and the same after damage inside place i, or inside its tail where i is n, each rescued into any buffers: the mark of any other place stays what it was,
 -- or says in both that it can be read
@@ -184,7 +175,8 @@ pub damage-stays : {N : ℕ} {file damaged out marks out′ marks′ other-out o
     → ((getD marks′ j 0 ≤ 1) × (getD other-marks′ j 0 ≤ 1)) ⊎ (getD marks′ j 0 ≡ getD other-marks′ j 0)
 damage-stays {N} {file} {damaged} a ok b sure {n} {t} {i} c hi d j h ne =
     let cut : Cut N damaged n t = record { long = d .same-length ∙ c .long; few = c .few } in
-    let same = undamaged (recordLength N) file damaged n i j d (omega (arith, c .long)) hi h ne in
+    let fits : recordLength N * i ≤ recordLength N * n = mul-le-mul-left (recordLength N) hi in
+    let same = undamaged (recordLength N) file damaged i j d (omega (arith, c .long)) ne in
     let ms = known b sure cut .ms in
     let mark = subst (λ z. Mark N (lastCopied (recordLength N) damaged ms j) z (getD ms j 0)) same (known b sure cut .marked .each j h) in
     subst₂ (λ x y. ((x ≤ 1) × (y ≤ 1)) ⊎ (x ≡ y)) (sym (mark-there a ok c j h)) (sym (mark-there b sure cut j h)) (mark-elsewhere (known a ok c .marked .each j h) mark)

@@ -27,6 +27,7 @@ use Rattle.parse.specs.Reading.{Refused}
 use Rattle.readback.specs.ReadBack.{ReadBack, wrong-length, no-diagram, not-smallest}
 use Rattle.readback.proofs.ReadBackLaws.{read-back-once}
 use Rattle.shelf.specs.Shelves.{_≺_, placeAt}
+use Rattle.shelf.proofs.Once.{same-refusal}
 use Rattle.shelf.proofs.Tested.{refused-unreadable}
 use Rattle.shelf_rescue.specs.Rescues.{isKept, lastCopied, copied, Mark, kept, out-of-order, unread, Marked}
 
@@ -59,10 +60,7 @@ module _ {N : ℕ} {x : List ℕ} where
   kept-only (unread b) e = absurd (omega (arith, numbered b .no-mark))
 
   same-number : {d e : CdError} → ReadBack N x (Refused d) → ReadBack N x (Refused e) → getD (numberOf d) 0 0 ≡ getD (numberOf e) 0 0
-  same-number {d} {e} a b = let h = read-back-once a b in ap (λ z. getD (numberOf z) 0 0) (same h)
-    where
-      same : Refused d ≡ Refused e → d ≡ e
-      same h = cc
+  same-number a b = ap (λ z. getD (numberOf z) 0 0) (same-refusal (read-back-once a b))
 
   pub mark-once : {last : List ℕ} {a b : ℕ} → Mark N last x a → Mark N last x b → a ≡ b
   mark-once (kept r h) (kept s k) = refl

@@ -28,11 +28,11 @@ pub record Cut (N : ℕ) (file : List ℕ) (n t : ℕ) : Type 0 where
 
 -- ---- what is copied, by the places' marks ms
 
--- "0 for kept": whether place i is
+-- "0 for kept": whether place i is kept
 abbrev pub isKept : List ℕ → ℕ → Bool
 isKept ms i = eqb (getD ms i 0) 0
 
--- "the last one copied" of the first n places of w bytes; no bytes as long as none is
+-- "the last one copied" before place i, a place having w bytes; no bytes as long as none is
 unfoldable pub lastCopied : ℕ → List ℕ → List ℕ → ℕ → List ℕ
 lastCopied w file ms zero = []
 lastCopied w file ms (suc i) = let before = lastCopied w file ms i in pick (isKept ms i) (placeAt w file i) before
