@@ -77,16 +77,11 @@ module _ {N : ℕ} {file out marks out′ marks′ : List ℕ} {r : Rescued} (a 
     marks-front : marks′ ≡ known .ms ++ drop (length (known .ms)) marks
     marks-front = known .marks-hold ∙ written-front (known .ms) marks
 
-    abbrev pub after : List ℕ
-    after = take (recordLength N * r .kept) out′
+    front-copies : take (recordLength N * r .kept) out′ ≡ copies
+    front-copies = ap (take (recordLength N * r .kept)) out-front ∙ take-at copies (drop (length copies) out) (recordLength N * r .kept) copies-length
 
-    after-copies : after ≡ copies
-    after-copies = ap (take (recordLength N * r .kept)) out-front ∙ take-at copies (drop (length copies) out) (recordLength N * r .kept) copies-length
-
-    -- THE RESULT PASSES THE SHELF CHECK
-    pub rescue-passes : {d : Checked} → Checks N after d → d ≡ record { answer = said.Accepted; places = r .kept }
-    rescue-passes h =
-        checks-once h (right (subst₂ (Shelf N) (sym after-copies) (sym (known .counted)) (copied-shelf (known .marked) n (le-refl n) .shelf)) refl)
+    front-shelf : Shelf N (take (recordLength N * r .kept) out′) (r .kept)
+    front-shelf = subst₂ (Shelf N) (sym front-copies) (sym (known .counted)) (copied-shelf (known .marked) n (le-refl n) .shelf)
 
     -- BYTES PAST THE KEPT RECORDS, AND PAST THE LAST PLACE'S MARK, STAY
     pub rest-kept : (drop (recordLength N * r .kept) out′ ≡ drop (recordLength N * r .kept) out) × (drop n marks′ ≡ drop n marks)
@@ -98,6 +93,14 @@ module _ {N : ℕ} {file out marks out′ marks′ : List ℕ} {r : Rescued} (a 
     -- the mark of place j
     mark-there : (j : ℕ) → j < n → getD marks′ j 0 ≡ getD (known .ms) j 0
     mark-there j h = ap (λ z. getD z j 0) marks-front ∙ List·getD-append (known .ms) (drop (length (known .ms)) marks) 0 j (omega (arith, known .marked .one-each))
+
+  -- THE RESULT PASSES THE SHELF CHECK
+  pub rescue-passes : r .answer ≡ said.Accepted → {d : Checked} → Checks N (take (recordLength N * r .kept) out′) d → d ≡ record { answer = said.Accepted; places = r .kept }
+  rescue-passes ok check = checks-once check (right (go a) refl)
+    where
+      go : Rescues N file out marks out′ marks′ r → Shelf N (take (recordLength N * r .kept) out′) (r .kept)
+      go (short d s h p q) = absurd (apart _ (sym ok ∙ ap (λ (y : Rescued). y .answer) h))
+      go (rescued c l k s h p q) = front-shelf ok c
 
 -- ---- every mark is 0, 1, 14 or 22
 
