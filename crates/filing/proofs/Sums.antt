@@ -3,7 +3,7 @@
 use mathlib.Core.Bool.{Bool, true, false, _||_}
 use mathlib.Core.Logic.{_≢_}
 use mathlib.Core.Path.{_≡_, refl, sym, ap, ap₂, _∙_}
-use Prim.Native.Nat.{ℕ, zero, suc, _+_, _-_, _*_, _≤_, _<_}
+use Prim.Native.Nat.{ℕ, zero, suc, _+_, _-_, _*_, _<_}
 use native.Mathlib.Decide.{ℕ-discrete}
 use native.Mathlib.Nat.{zero-add, suc-add, le-refl, not-suc-le-zero}
 use native.Mathlib.Numerals.{add-one}
@@ -40,15 +40,6 @@ sum-alone f (suc n) a h e =
     ]
 
 -- ---- counts
-
-one-few : (b : Bool) → one b ≤ 1
-one-few true = omega arith
-one-few false = omega arith
-
-pub count-few : (t : ℕ → Bool) (n : ℕ) → count t n ≤ n
-unfolding sum
-count-few t zero = omega arith
-count-few t (suc n) = omega (arith, count-few t n, one-few (t n))
 
 pub count-all : (t : ℕ → Bool) (n : ℕ) → ((i : ℕ) → i < n → t i ≡ true) → count t n ≡ n
 unfolding sum
