@@ -8,7 +8,7 @@ use native.Mathlib.Nat.{add-zero, le-refl, not-suc-le-zero}
 use native.Mathlib.Numerals.{add-one}
 use native.Mathlib.Omega.{arith}
 use lib.Dec.{eqb}
-use lib.ListN.{getD, replicate, length-replicate, getD-replicate}
+use lib.ListN.{length, getD, replicate, length-replicate, getD-replicate}
 use lib.Seq.{take-all, ext-getD}
 use borrow.Author.Tests.{eqb-true}
 use Rattle.float.specs.Pick.{pick}
@@ -68,6 +68,9 @@ pub copied-shelf : {N : ℕ} {l : List ℕ} {n : ℕ} {ms : List ℕ} → Marked
 unfolding blocks sum lastCopied
 copied-shelf s zero h = no-places
 copied-shelf {ms = ms} s (suc i) h = by-mark (getD ms i 0) (isKept ms i) refl (s .each i h) (copied-shelf s i (omega arith))
+
+pub copied-length : {N : ℕ} {l : List ℕ} {n k : ℕ} {ms : List ℕ} → Marked N l n ms → k ≡ count (isKept ms) n → length (copied (recordLength N) l ms n) ≡ recordLength N * k
+copied-length {N} {n = n} s e = copied-shelf s n (le-refl n) .shelf .whole ∙ ap (λ i. recordLength N * i) (sym e)
 
 -- ---- OF A SHELF EVERY PLACE IS KEPT
 

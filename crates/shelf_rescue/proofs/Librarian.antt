@@ -26,7 +26,7 @@ use Rattle.shelf.proofs.Places.{place-in-front, place-behind, place-length}
 use Rattle.shelf_rescue.specs.Damage.{DamagedAt}
 use Rattle.shelf_rescue.specs.Rescues.{Cut, isKept, lastCopied, copied, Mark, kept, out-of-order, unread, Marked, Rescues, short, rescued}
 use Rattle.shelf_rescue.specs.declared.Rescued.{Rescued}
-use Rattle.shelf_rescue.proofs.Copies.{copied-shelf, marks-0, all-copied, all-counted}
+use Rattle.shelf_rescue.proofs.Copies.{copied-shelf, copied-length, marks-0, all-copied, all-counted}
 use Rattle.shelf_rescue.proofs.Marks.{mark-elsewhere}
 use Rattle.shelf_rescue.proofs.Once.{cut-once, not-short}
 
@@ -69,7 +69,7 @@ module _ {N : ℕ} {file out marks out′ marks′ : List ℕ} {r : Rescued} (a 
     copies = copied (recordLength N) file (known .ms) n
 
     copies-length : length copies ≡ recordLength N * r .kept
-    copies-length = copied-shelf (known .marked) n (le-refl n) .shelf .whole ∙ ap (λ k. recordLength N * k) (sym (known .counted))
+    copies-length = copied-length (known .marked) (known .counted)
 
     out-front : out′ ≡ copies ++ drop (length copies) out
     out-front = known .out-holds ∙ written-front copies out

@@ -16,6 +16,7 @@ use Rattle.cd.specs.Arrays.{padded}
 use Rattle.cd.specs.Minimal.{Decides}
 use Rattle.cd.specs.Refusals.{numberOf}
 use Rattle.cd.specs.declared.CdError.{CdError}
+use Rattle.cd.proofs.Arrays.{getD-padded}
 use Rattle.cd.proofs.Decided.{refutes}
 use Rattle.filing.specs.Bytes.{_≼_, blocks}
 use Rattle.filing.specs.Counts.{one, sum, count}
@@ -37,13 +38,16 @@ use Rattle.shelf_rescue.specs.Rescues.{isKept, lastCopied, copied, Mark,
 pub record Numbered (e : CdError) : Type 0 where
   pub no-mark : 2 ≤ getD (numberOf e) 0 0
   pub byte : getD (numberOf e) 0 0 ≤ 255
-  pub first : getD (padded 0 4 (numberOf e)) 0 0 ≡ getD (numberOf e) 0 0
 
 pub numbered : {N : ℕ} {x : List ℕ} {e : CdError} → ReadBack N x (Refused e) → Numbered e
-unfolding numberOf padded
-numbered (wrong-length n) = record { no-mark = omega arith; byte = omega arith; first = refl }
-numbered (no-diagram h n) = record { no-mark = omega arith; byte = omega arith; first = refl }
-numbered (not-smallest d n) = record { no-mark = omega arith; byte = omega arith; first = refl }
+unfolding numberOf
+numbered (wrong-length n) = record { no-mark = omega arith; byte = omega arith }
+numbered (no-diagram h n) = record { no-mark = omega arith; byte = omega arith }
+numbered (not-smallest d n) = record { no-mark = omega arith; byte = omega arith }
+
+-- as the code holds it
+pub first-number : (e : CdError) {figures : List ℕ} → figures ≡ padded 0 4 (numberOf e) → getD figures 0 0 ≡ getD (numberOf e) 0 0
+first-number e h = ap (λ z. getD z 0 0) h ∙ getD-padded 0 0 4 (numberOf e) 0 (omega arith)
 
 module _ {N : ℕ} {x : List ℕ} where
   -- as the code tells it
@@ -52,7 +56,7 @@ module _ {N : ℕ} {x : List ℕ} where
   mark-read false k d = kept k (refutes d refl)
 
   pub mark-unread : {last figures : List ℕ} {e : CdError} → ReadBack N x (Refused e) → figures ≡ padded 0 4 (numberOf e) → Mark N last x (getD figures 0 0)
-  mark-unread {last} b h = subst (Mark N last x) (sym (ap (λ z. getD z 0 0) h ∙ numbered b .first)) (unread b)
+  mark-unread {last} {e = e} b h = subst (Mark N last x) (sym (first-number e h)) (unread b)
 
   pub kept-only : {last : List ℕ} {m : ℕ} → Mark N last x m → m ≡ 0 → Readable N x × (last ≺ x)
   kept-only (kept r h) e = (r, h)

@@ -3,10 +3,9 @@
 use mathlib.Core.List.{List}
 use mathlib.Core.Logic.{_⊎_, inl, inr}
 use mathlib.Core.Path.{_≡_, sym, ap, ap₂, _∙_, subst}
-use Prim.Native.Nat.{ℕ, _+_, _*_, _≤_, _<_}
-use native.Mathlib.Decide.{decLt}
-use native.Mathlib.Nat.{mul-le-mul-left}
+use Prim.Native.Nat.{ℕ, _+_, _*_, _/_, _%_, _≤_, _<_}
 use native.Mathlib.Omega.{arith}
+use lib.Arith.{digits-div, digits-mod}
 use lib.ListN.{length}
 use Rattle.filing.specs.Bytes.{written}
 use Rattle.filing.specs.Counts.{count}
@@ -17,12 +16,9 @@ use Rattle.shelf_rescue.specs.declared.Rescued.{Rescued}
 use Rattle.shelf_rescue.proofs.Marks.{marked-once}
 
 same-rest : (w : ℕ) {n m t u : ℕ} → w * n + t ≡ w * m + u → t < w → u < w → (n ≡ m) × (t ≡ u)
-same-rest w {n} {m} {t} {u} e h k = go (decLt n m) (decLt m n)
-  where
-    go : Dec (n < m) → Dec (m < n) → (n ≡ m) × (t ≡ u)
-    go (yes a) d = absurd (omega (arith, mul-le-mul-left w a))
-    go (no a) (yes b) = absurd (omega (arith, mul-le-mul-left w b))
-    go (no a) (no b) = let f : n ≡ m = omega arith in let g = ap (λ k. w * k) f in (f, omega arith)
+same-rest w {n} {m} {t} {u} e h k =
+    let f : n * w + t ≡ m * w + u = omega arith in
+    (sym (digits-div n h) ∙ ap (λ z. z / w) f ∙ digits-div m k, sym (digits-mod n h) ∙ ap (λ z. z % w) f ∙ digits-mod m k)
 
 module _ {N : ℕ} {file : List ℕ} where
   -- A FILE HAS ONE NUMBER OF PLACES AND ONE TAIL

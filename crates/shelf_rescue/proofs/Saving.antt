@@ -3,7 +3,7 @@ use mathlib.Core.List.{List, [], _∷_, _++_, append-nil}
 use mathlib.Core.Logic.{_≢_}
 use mathlib.Core.Path.{_≡_, refl, sym, ap, ap₂, _∙_, subst₂}
 use Prim.Native.Nat.{ℕ, suc, _+_, _-_, _*_, _≤_, _<_}
-use native.Mathlib.Nat.{zero-add, add-zero, le-refl}
+use native.Mathlib.Nat.{zero-add, add-zero}
 use native.Mathlib.Numerals.{add-one}
 use native.Mathlib.Omega.{arith}
 use lib.Dec.{eqb}
@@ -18,7 +18,7 @@ use Rattle.parse.specs.declared.Answer.the-variants as said
 use Rattle.shelf.specs.Shelves.{placeAt}
 use Rattle.shelf.proofs.Tested.{part, part-place}
 use Rattle.shelf_rescue.specs.Rescues.{Cut, isKept, lastCopied, copied, Mark, Marked, Rescues, rescued}
-use Rattle.shelf_rescue.proofs.Copies.{copied-shelf}
+use Rattle.shelf_rescue.proofs.Copies.{copied-length}
 use Rattle.shelf_rescue.proofs.Marks.{marked-none, marked-more, count-more, last-more, copied-more}
 
 -- after i places: the buffers hold what is copied and the marks, and the last record copied is that from `from` up to `to`
@@ -42,9 +42,6 @@ saved-none N file out marks = record {
 }
 
 module _ {N : ℕ} {file out₀ marks₀ : List ℕ} {i kept from to : ℕ} {out marks : List ℕ} (s : Saved N file out₀ marks₀ i kept from to out marks) where
-  copied-length : length (copied (recordLength N) file (s .ms) i) ≡ recordLength N * kept
-  copied-length = copied-shelf (s .marked) i (le-refl i) .shelf .whole ∙ ap (λ k. recordLength N * k) (sym (s .counted))
-
   -- ---- one place more
 
   module _ {m : ℕ} (same-length : length marks ≡ length marks₀) (room : i < length marks₀) (mark : Mark N (take (to - from) (drop from file)) (part (recordLength N) file i) m) where
@@ -82,10 +79,11 @@ module _ {N : ℕ} {file out₀ marks₀ : List ℕ} {i kept from to : ℕ} {out
       where
         stored : out′ ≡ written 0 (copied (recordLength N) file next (suc i)) out₀
         stored =
-            let e : 0 + length (copied (recordLength N) file (s .ms) i) ≡ recordLength N * kept = zero-add _ ∙ copied-length in
+            let long = copied-length (s .marked) (s .counted) in
+            let e : 0 + length (copied (recordLength N) file (s .ms) i) ≡ recordLength N * kept = zero-add _ ∙ long in
             w ∙ ap₂ (λ x z. written (recordLength N * kept) x z) (part-place (recordLength N) file i) (s .out-holds)
             ∙ ap (λ k. written k (placeAt (recordLength N) file i) (written 0 (copied (recordLength N) file (s .ms) i) out₀)) (sym e)
-            ∙ written-then 0 (copied (recordLength N) file (s .ms) i) (placeAt (recordLength N) file i) out₀ (omega (arith, copied-length))
+            ∙ written-then 0 (copied (recordLength N) file (s .ms) i) (placeAt (recordLength N) file i) out₀ (omega (arith, long))
             ∙ ap (λ z. written 0 z out₀) (rw (eq-eqb m 0 z) at next-copied)
 
     pub saved-passed : m ≢ 0 → Saved N file out₀ marks₀ (i + 1) kept from to out (set marks i m)

@@ -1,10 +1,8 @@
 -- `shelf_rescue::mark` meets its contract: the cases of the definition. Assumes nothing.
-use Prim.Native.Nat.{_≤_}
 use native.Mathlib.Omega.{arith}
-use lib.ListN.{getD}
 use borrow.Author.Needs.{needs}
 use Rattle.shelf.proofs.Tested.{accepted-read, refused-read}
-use Rattle.shelf_rescue.proofs.Marks.{numbered, mark-read, mark-unread}
+use Rattle.shelf_rescue.proofs.Marks.{numbered, first-number, mark-read, mark-unread}
 use Rattle.shelf_rescue.proofs.mark.Statement.{statement}
 use Rattle.shelf_rescue.proofs.mark.Tie as tie
 
@@ -13,8 +11,7 @@ cast-result-2 c =
     let f = c .before in
     let a = f .before .before in
     let b = numbered (refused-read (a .before .before .read-record .ensures) (a .a .given .1)) in
-    let h : getD (f .figures .result .at) 0 0 ≤ 255 = rw (f .figures .ensures .2, b .first) (b .byte) in
-    omega arith
+    omega (arith, b .byte, first-number _ (f .figures .ensures .2))
 
 returns : tie.Need-returns
 returns c = mark-read (c .no-greater .result) (accepted-read (c .before .before .before .read-record .ensures) (c .before .enum-told .given .1)) (c .no-greater .ensures)
