@@ -82,6 +82,15 @@ def table(top):
     return turned, labels, {turned.get(n, n) for n in where}
 
 
+def turned_here(text, turned):
+    """Without the names that this file takes from a library."""
+    theirs = set()
+    for m in re.finditer(r"\buse ([^\s;{]+)\.\{([^}]*)\}", text):
+        if not m[1].startswith("Rattle.") or m[1].split(".")[1] in ("std", "core"):
+            theirs |= set(re.findall(NAME, m[2]))
+    return {a: b for a, b in turned.items() if a not in theirs}
+
+
 def turn(text, turned, labels):
     def one(m):
         dotted = text[m.start() - 1 : m.start()] == "."
@@ -134,7 +143,7 @@ def main():
     turned, labels, declared = table(top)
     for path in files(top):
         text = read(path)
-        new = (rt if path.endswith(".rt") else antt)(text, turned, labels)
+        new = (rt if path.endswith(".rt") else antt)(text, turned_here(text, turned), labels)
         if new != text:
             with open(path, "w", encoding="utf-8") as f:
                 f.write(new)

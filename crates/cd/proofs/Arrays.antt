@@ -6,7 +6,7 @@ use mathlib.Core.List.{List, [], ◌∷◌, ◌++◌, map, map-append}
 use mathlib.Core.Logic.{◌⊎◌, inl, inr, ⊎_elim}
 use mathlib.Core.Path.{◌≡◌, refl, sym, ap, ap₂, ◌∙◌}
 use native.Mathlib.Decide.{dec_lt}
-use native.Mathlib.Nat.{zero_add, sub-zero, suc-add, le_of_suc-le-suc, not-suc-le-zero, eq-or-lt_of_le}
+use native.Mathlib.Nat.{zero-add, sub-zero, suc-add, le_of_suc-le-suc, not-suc-le-zero, eq-or-lt_of_le}
 use native.Mathlib.Numerals.{add-one}
 use native.Mathlib.Omega.{arith}
 use borrow.Author.Tests.{lt-ltb, le-ltb}
@@ -185,7 +185,7 @@ module _ {A : Type 0} (f : ℕ → ℕ → A) (d : A) where
 -- ---- a store
 
 pub set_append_add : {A : Type 0} (xs ys : List A) (n : ℕ) (v : A) → set (xs ++ ys) (length xs + n) v ≡ xs ++ set ys n v
-set_append_add [] ys n v = rw zero_add
+set_append_add [] ys n v = rw zero-add
 set_append_add (x ∷ xs) ys n v = rw (suc-add, set_append_add xs ys n v)
 
 -- the pairs {a, b} and {i, j} are one

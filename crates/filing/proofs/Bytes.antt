@@ -5,7 +5,7 @@ use mathlib.Core.Logic.{◌⊎◌, inl, inr}
 use mathlib.Core.Path.{◌≡◌, refl, sym, ap, ap₂, ◌∙◌}
 use Prim.Native.Nat.{ℕ, zero, suc, ◌+◌, ◌*◌, ◌%◌, ◌^◌, ◌≤◌, ◌<◌}
 use native.Mathlib.Nat.{mod-one, mod-eq_of_lt, pow-succ', one-le-pow, zero-lt-suc, suc_inj, suc-ne-zero, not-suc-le-zero, le_of_suc-le-suc, eq-or-lt_of_le, le_refl}
-use native.Mathlib.Nat.{one-mul, zero_add, add-zero, suc-add, add_assoc, add_comm, mul_assoc, mul-add-div_right, mul-add-mod_self_right, div-div-eq-div-mul}
+use native.Mathlib.Nat.{one-mul, zero-add, add-zero, suc-add, add_assoc, add_comm, mul_assoc, mul-add-div_right, mul-add-mod_self_right, div-div-eq-div-mul}
 use native.Mathlib.Numerals.{add-one}
 use native.Mathlib.Omega.{arith}
 use lib.Arith.{mod-mul, digits_div}
@@ -43,7 +43,7 @@ bytes_low (suc k) x y = rw (pow-succ' 256 k, ← (mul_assoc x 256 (256 ^ k)), mu
 
 pub bytes_split : (w v x y : ℕ) → y < 256 ^ v → bytes (w + v) (x * 256 ^ v + y) ≡ bytes w x ++ bytes v y
 unfolding bytes
-bytes_split zero v x y h = rw (zero_add v) (bytes_low v x y)
+bytes_split zero v x y h = rw (zero-add v) (bytes_low v x y)
 bytes_split (suc w) v x y h =
     rw (suc-add w v, add_comm w v, pow-add 256 v w, ← div-div-eq-div-mul, digits_div x h, add_comm v w, bytes_split w v x y h)
 
@@ -127,7 +127,7 @@ written_nil k l = rw (add-zero k) (take-append-drop k l)
 
 pub written_front : (x l : List ℕ) → written zero x l ≡ x ++ drop (length x) l
 unfolding written
-written_front x l = rw (zero_add (length x))
+written_front x l = rw (zero-add (length x))
 
 pub written_byte : (k b : ℕ) (l : List ℕ) → k < length l → set l k b ≡ written k (b ∷ []) l
 unfolding written

@@ -3,7 +3,7 @@
 use mathlib.Core.Logic.{◌↔◌}
 use mathlib.Core.Path.{◌≡◌, refl, sym, ap, ◌∙◌}
 use Prim.Native.Nat.{ℕ, zero, suc, ◌*◌, ◌/◌, ◌%◌, ◌≤◌, ◌<◌, ◌∣◌}
-use native.Mathlib.Nat.{le_refl, zero-lt-suc, not-suc-le-zero, mul_zero, mul_comm, mul_assoc, mul-sub, mul-pos, eq_of_mul-eq-mul_left, lt_of_mul-lt-mul_left}
+use native.Mathlib.Nat.{le_refl, zero-lt-suc, not-suc-le-zero, mul-zero, mul_comm, mul_assoc, mul-sub, mul-pos, eq_of_mul-eq-mul_left, lt_of_mul-lt-mul_left}
 use native.Mathlib.Nat.{mod-lt, mod_def, div-one, div_self, div-le_self, mul-div-mul_left, mul-div_cancel', dvd_refl, dvd-zero, dvd-mod_iff, pos_of_dvd_of_pos}
 use native.Mathlib.Decide.{ℕ_discrete}
 use native.Mathlib.Omega.{arith}
@@ -64,7 +64,7 @@ pub gcd_scaled : (k a b : ℕ) → zero < k → gcd (k * a) (k * b) ≡ k * gcd 
 gcd_scaled k a b h = gcd_ind (λ a b. gcd (k * a) (k * b) ≡ k * gcd a b) base step a b
   where
     base : (a : ℕ) → gcd (k * a) (k * zero) ≡ k * gcd a zero
-    base a = rw (mul_zero, gcd_zero (k * a), gcd_zero a)
+    base a = rw (mul-zero, gcd_zero (k * a), gcd_zero a)
 
     step : (a b : ℕ) → gcd (k * suc b) (k * (a % suc b)) ≡ k * gcd (suc b) (a % suc b) → gcd (k * a) (k * suc b) ≡ k * gcd a (suc b)
     step a b ih = gcd_pos (k * a) (mul-pos h (zero-lt-suc b)) ∙ rw (mod_scaled k a (suc b), gcd_suc a b) ih
@@ -101,7 +101,7 @@ module _ (x : Fraction) where
   lowest_den_le = div-le_self x.den (gcd x.num x.den)
 
   pub lowest_positive : zero < x.den → zero < (lowest x).den
-  lowest_positive h = lt_of_mul-lt-mul_left divisor (rw (mul_zero, lowest_den) h)
+  lowest_positive h = lt_of_mul-lt-mul_left divisor (rw (mul-zero, lowest_den) h)
 
   pub lowest_less : x.den < x.num → (lowest x).den < (lowest x).num
   lowest_less h = lt_of_mul-lt-mul_left divisor (rw (lowest_num, lowest_den) h)

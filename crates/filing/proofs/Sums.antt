@@ -5,7 +5,7 @@ use mathlib.Core.Logic.{◌≢◌}
 use mathlib.Core.Path.{◌≡◌, refl, sym, ap, ap₂, ◌∙◌}
 use Prim.Native.Nat.{ℕ, zero, suc, ◌+◌, ◌-◌, ◌*◌, ◌<◌}
 use native.Mathlib.Decide.{ℕ_discrete}
-use native.Mathlib.Nat.{zero_add, suc-add, le_refl, not-suc-le-zero}
+use native.Mathlib.Nat.{zero-add, suc-add, le_refl, not-suc-le-zero}
 use native.Mathlib.Numerals.{add-one}
 use native.Mathlib.Omega.{arith}
 use Rattle.filing.specs.Counts.{one, sum, count, pair_count}
@@ -51,7 +51,7 @@ count_all t (suc n) h = ap₂ (λ k b. k + one b) (count_all t n (λ i k. h i (o
 -- f k taken out, with m behind it
 pub sum_taken : (f : ℕ → ℕ) (k m : ℕ) → sum f (suc (m + k)) ≡ sum (λ i. f (past k i)) (m + k) + f k
 unfolding sum
-sum_taken f k zero = rw (zero_add k, sum_local f (λ i. f (past k i)) k (λ i h. ap f (sym (past_below k i h))))
+sum_taken f k zero = rw (zero-add k, sum_local f (λ i. f (past k i)) k (λ i h. ap f (sym (past_below k i h))))
 sum_taken f k (suc m) =
     let next = ap f (past_from k (m + k) (omega arith)) in
     let before = sum_taken f k m in
@@ -73,7 +73,7 @@ pairs_local t u n e = sum_local _ _ n (λ j h. sum_local _ _ j (λ i l. ap one (
 
 one_or : (a b : Bool) → (a ≡ true → b ≡ false) → one (a || b) ≡ one a + one b
 one_or true b h = ap (λ c. 1 + one c) (sym (h refl))
-one_or false b h = sym (zero_add (one b))
+one_or false b h = sym (zero-add (one b))
 
 -- no pair has both tests
 pub pairs_or : (t u : ℕ → ℕ → Bool) (n : ℕ) → ((i j : ℕ) → t i j ≡ true → u i j ≡ false) → pair_count (λ i j. t i j || u i j) n ≡ pair_count t n + pair_count u n

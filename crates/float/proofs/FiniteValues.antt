@@ -1,6 +1,6 @@
 -- A decimal in range is no infinity: it is at most 2 ^ 53 * 10 ^ 22, which is below 2 ^ 127, and rounding keeps the order. So only the words are infinite.
 -- Assumes nothing.
-use mathlib.Core.Bool.{Bool, true, false, cond, and_true}
+use mathlib.Core.Bool.{Bool, true, false, cond, and-true}
 use mathlib.Core.Path.{◌≡◌, sym, subst}
 use Prim.Native.Nat.{ℕ, zero, suc, ◌+◌, ◌*◌, ◌^◌, ◌≤◌, ◌<◌}
 use native.Mathlib.Nat.{le_of_lt, lt_of_le_of_lt, mul-one, mul-le-mul, one-le-pow, pow-le-pow_right}
@@ -47,6 +47,6 @@ value_finite w (pos k) h r =
     let few : w * 10 ^ k * 1 ≤ 2 ^ 53 * 10 ^ 22 = rw (mul-one (w * 10 ^ k)) (mul-le-mul h (pow-le-pow_right (lit< tt) l)) in
     rw (up_rounded_once w k h l) (round_finite (w * 10 ^ k) 1 (lit< tt) (le_of_lt (lt_of_le_of_lt few (lit< {m = 2 ^ 53 * 10 ^ 22} tt))))
 value_finite w (negsuc k) h r =
-    let l : suc k ≤ 22 = omega (arith, leb-true k 21 (rw and_true at r)) in
+    let l : suc k ≤ 22 = omega (arith, leb-true k 21 (rw and-true at r)) in
     let one = one-le-pow (suc k) 10 (lit< tt) in
     rw (down_rounded_once w k h l) (round_finite w (10 ^ suc k) one (mul-le-mul (le_of_lt (lt_of_le_of_lt h (lit< {m = 2 ^ 53} tt))) one))

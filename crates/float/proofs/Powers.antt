@@ -2,7 +2,7 @@
 use mathlib.Core.Path.{◌≡◌, refl, sym, ap, ◌∙◌}
 use mathlib.Core.Bool.{Bool, true, false, ◌&&◌, true≢false}
 use Prim.Native.Nat.{ℕ, suc, ◌+◌, ◌≤◌, ◌<◌, ◌^◌}
-use native.Mathlib.Nat.{zero_add}
+use native.Mathlib.Nat.{zero-add}
 use native.Mathlib.Omega.{arith}
 use borrow.Author.Tests.{leb-true, leb-false}
 use lib.Dec.{T, leb}
@@ -53,4 +53,4 @@ down_cast (negsuc k) h t = let l = size (negsuc k) h in (tt, record { fits = ome
 pub down_value : (w : ℕ) (p : ℤ) → le_z (pos 0) p ≡ false → whole w /ᶠ whole (10 ^ nat_abs (pos 0 -ℤ p)) ≡ value w p
 unfolding value
 down_value w (pos k) t = not_down k t
-down_value w (negsuc k) t = simp zero_add
+down_value w (negsuc k) t = simp zero-add

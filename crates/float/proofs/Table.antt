@@ -2,7 +2,7 @@
 use mathlib.Core.Path.{◌≡◌, refl, ap, ◌∙◌, sym}
 use mathlib.Core.List.{List, [], ◌∷◌}
 use Prim.Native.Nat.{ℕ, zero, suc, ◌+◌, ◌<◌}
-use native.Mathlib.Nat.{add-zero, zero_add, add-suc, suc-add, le_of_suc-le-suc, not-suc-le-zero}
+use native.Mathlib.Nat.{add-zero, zero-add, add-suc, suc-add, le_of_suc-le-suc, not-suc-le-zero}
 use lib.ListN.{get_or}
 
 -- the rule f at i, i + 1, .., n of them
@@ -16,4 +16,4 @@ entry_from f d i (suc n) zero h = ap f (sym (add-zero i))
 entry_from f d i (suc n) (suc k) h = entry_from f d (suc i) n k (le_of_suc-le-suc h) ∙ ap f (suc-add i k ∙ sym (add-suc i k))
 
 pub entry : {A : Type 0} (f : ℕ → A) (d : A) (n k : ℕ) → k < n → get_or (entries f 0 n) k d ≡ f k
-entry f d n k h = entry_from f d 0 n k h ∙ ap f (zero_add k)
+entry f d n k h = entry_from f d 0 n k h ∙ ap f (zero-add k)

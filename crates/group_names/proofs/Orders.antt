@@ -2,7 +2,7 @@
 use mathlib.Core.Path.{◌≡◌, sym, ap, ◌∙◌, subst}
 use Prim.Native.Nat.{ℕ, zero, suc, ◌+◌, ◌-◌, ◌*◌, ◌/◌, ◌^◌, ◌≤◌, ◌<◌}
 use native.Mathlib.Decide.{ℕ_discrete}
-use native.Mathlib.Nat.{pow-zero, pow-suc, mul-le-mul, le_refl, le_trans, zero_add, suc-add}
+use native.Mathlib.Nat.{pow-zero, pow-suc, mul-le-mul, le_refl, le_trans, zero-add, suc-add}
 use native.Mathlib.Numerals.{add-one}
 use native.Mathlib.Omega.{arith}
 use Rattle.filing.specs.Factorials.{factorial}
@@ -33,7 +33,7 @@ product_step s k h =
     omega (arith, l, product_next s k)
 
 product_grows : (s d k : ℕ) → 1 ≤ s → product s k ≤ product s (d + k)
-product_grows s zero k h = rw (zero_add k) (le_refl (product s k))
+product_grows s zero k h = rw (zero-add k) (le_refl (product s k))
 product_grows s (suc d) k h = rw (suc-add d k) (le_trans (product_grows s d k h) (rw add-one at (product_step s (d + k) h)))
 
 pub product_fits : (s k : ℕ) → 1 ≤ s → s ≤ 2 → k ≤ 16 → product s k < 2 ^ 64

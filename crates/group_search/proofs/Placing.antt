@@ -5,7 +5,7 @@ use mathlib.Core.Logic.{◌≢◌}
 use mathlib.Core.Path.{◌≡◌, refl, sym, ap, ◌∙◌, subst}
 use Prim.Native.Nat.{ℕ, zero, suc, ◌+◌, ◌-◌, ◌≤◌, ◌<◌, zero-le}
 use native.Mathlib.Decide.{ℕ_discrete, dec_lt}
-use native.Mathlib.Nat.{not-suc-le-zero, zero_add, suc-add, le_refl, le_trans}
+use native.Mathlib.Nat.{not-suc-le-zero, zero-add, suc-add, le_refl, le_trans}
 use native.Mathlib.Numerals.{add-one}
 use native.Mathlib.Omega.{arith}
 use borrow.Author.Tests.{eq-eqb, ne_eqb}
@@ -109,7 +109,7 @@ module _ (of : List ℕ) (c : ℕ) where
   count_step k = elim (ℕ_discrete (at of k) c) [ yes e ↦ omega (arith, count_yes k e) | no e ↦ omega (arith, count_no k e) ]
 
   count_mono : (d a : ℕ) → label_count of c a ≤ label_count of c (d + a)
-  count_mono zero a = rw (zero_add a) (le_refl (label_count of c a))
+  count_mono zero a = rw (zero-add a) (le_refl (label_count of c a))
   count_mono (suc d) a = rw (suc-add d a) (le_trans (count_mono d a) (count_step (d + a)))
 
   -- two nodes of the component have a different number of its nodes below them

@@ -2,7 +2,7 @@
 use mathlib.Core.List.{List, [], ◌∷◌, ◌++◌, append_assoc}
 use mathlib.Core.Path.{◌≡◌, refl, sym, ap, ◌∙◌}
 use Prim.Native.Nat.{ℕ, suc, ◌+◌, ◌-◌, ◌*◌, ◌≤◌, ◌<◌}
-use native.Mathlib.Nat.{zero_add}
+use native.Mathlib.Nat.{zero-add}
 use native.Mathlib.Numerals.{add-one}
 use native.Mathlib.Omega.{arith}
 use lib.ListN.{length, get_or, take, drop, set, replicate, length-replicate, replicate-append-replicate}
@@ -43,7 +43,7 @@ zeros_split a b = sym (replicate-append-replicate a b 0)
 
 pub zero_then : (i : ℕ) (l : List ℕ) → i < length l → set (written 0 (replicate i 0) l) i 0 ≡ written 0 (replicate (i + 1) 0) l
 zero_then i l h =
-    let e : 0 + length (zeros i) ≡ i = simp length-replicate (zero_add i) in
+    let e : 0 + length (zeros i) ≡ i = simp length-replicate (zero-add i) in
     let f : i < length (written 0 (zeros i) l) = rw (length_written 0 (zeros i) l (omega arith)) h in
     written_byte i 0 (written 0 (zeros i) l) f ∙ rw (zeros_split i 1) (rw e at (written_then 0 (zeros i) (0 ∷ []) l (omega arith)))
 

@@ -1,6 +1,6 @@
 -- The test of a range of bytes, from the comparisons of a `match`, and back. Assumes nothing.
 use Prim.Native.Nat.{ℕ, ◌≤◌, ◌<◌}
-use mathlib.Core.Bool.{true, false, and_false, and-eq-true_iff}
+use mathlib.Core.Bool.{true, false, and-false, and-eq-true_iff}
 use mathlib.Core.Path.{◌≡◌}
 use lib.Dec.{leb}
 use borrow.Author.Tests.{le-leb, lt-leb, leb-true}
@@ -16,7 +16,7 @@ within_below lo hi b p = simp (lt-leb lo b p)
 
 pub within_above : (lo hi b : ℕ) → hi < b → within lo hi b ≡ false
 unfolding within
-within_above lo hi b p = simp (lt-leb b hi p, and_false)
+within_above lo hi b p = simp (lt-leb b hi p, and-false)
 
 pub low_of_within : (lo hi b : ℕ) → within lo hi b ≡ true → lo ≤ b
 unfolding within

@@ -3,7 +3,7 @@ use mathlib.Core.List.{List, [], ◌∷◌, ◌++◌, append-nil}
 use mathlib.Core.Logic.{◌≢◌}
 use mathlib.Core.Path.{◌≡◌, refl, sym, ap, ap₂, ◌∙◌, subst₂}
 use Prim.Native.Nat.{ℕ, suc, ◌+◌, ◌-◌, ◌*◌, ◌≤◌, ◌<◌}
-use native.Mathlib.Nat.{zero_add, add-zero}
+use native.Mathlib.Nat.{zero-add, add-zero}
 use native.Mathlib.Numerals.{add-one}
 use native.Mathlib.Omega.{arith}
 use lib.Dec.{eqb}
@@ -53,7 +53,7 @@ module _ {N : ℕ} {file out₀ marks₀ : List ℕ} {i kept from to : ℕ} {out
 
     next_marks : set marks i m ≡ written 0 next marks₀
     next_marks =
-        let e : 0 + length s.ms ≡ i = zero_add (length s.ms) ∙ s.marked.one_each in
+        let e : 0 + length s.ms ≡ i = zero-add (length s.ms) ∙ s.marked.one_each in
         written_byte i m marks (omega arith) ∙ ap (written i (m ∷ [])) s.marks_hold
         ∙ ap (λ k. written k (m ∷ []) (written 0 s.ms marks₀)) (sym e) ∙ written_then 0 s.ms (m ∷ []) marks₀ (omega (arith, s.marked.one_each))
 
@@ -80,7 +80,7 @@ module _ {N : ℕ} {file out₀ marks₀ : List ℕ} {i kept from to : ℕ} {out
         stored : out' ≡ written 0 (copied (record_length N) file next (suc i)) out₀
         stored =
             let long = copied_length s.marked s.counted in
-            let e : 0 + length (copied (record_length N) file s.ms i) ≡ record_length N * kept = zero_add _ ∙ long in
+            let e : 0 + length (copied (record_length N) file s.ms i) ≡ record_length N * kept = zero-add _ ∙ long in
             w ∙ ap₂ (λ x z. written (record_length N * kept) x z) (part_place (record_length N) file i) s.out_holds
             ∙ ap (λ k. written k (place_at (record_length N) file i) (written 0 (copied (record_length N) file s.ms i) out₀)) (sym e)
             ∙ written_then 0 (copied (record_length N) file s.ms i) (place_at (record_length N) file i) out₀ (omega (arith, long))

@@ -2,7 +2,7 @@
 use mathlib.Core.List.{List, ◌++◌}
 use mathlib.Core.Path.{◌≡◌, refl, sym, ap, ap₂, ◌∙◌}
 use Prim.Native.Nat.{ℕ, ◌-◌, ◌*◌, ◌≤◌}
-use native.Mathlib.Nat.{zero_add}
+use native.Mathlib.Nat.{zero-add}
 use native.Mathlib.Omega.{arith}
 use borrow.Author.Rules.{rules}
 use lib.ListN.{length, take, replicate}
@@ -33,7 +33,7 @@ module _ (gs : List Group) (n : ℕ) (long : length gs ≡ limit) (few : n ≤ l
   then-zeros : (out mid out' : List ℕ) → mid ≡ sets out 0 (numbers gs n) → out' ≡ sets mid (4 * n) (replicate (names_length - 4 * n) 0) → out' ≡ sets out 0 (padded 0 names_length (numbers gs n))
   then-zeros out mid out' e q =
       q
-      ∙ ap₂ (λ z k. sets z k (replicate (names_length - 4 * n) 0)) e (sym (zero_add (4 * n)))
+      ∙ ap₂ (λ z k. sets z k (replicate (names_length - 4 * n) 0)) e (sym (zero-add (4 * n)))
       ∙ sets_behind out (numbers gs n) (replicate (names_length - 4 * n) 0) 0 (4 * n) numbers_long
       ∙ ap (sets out 0) (sym (padded_rest 0 names_length (numbers gs n) (omega (arith, numbers_long)) ∙ ap (λ k. numbers gs n ++ replicate (names_length - k) 0) numbers_long))
 
