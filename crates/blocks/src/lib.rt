@@ -1,4 +1,6 @@
 // Ranks of pairs in place of their numbers, and blocks: of a place its pairs with the places before it, the ranks being digits of one number.
+#![tactic(auto)]
+
 ghost use Rattle.std.specs.Prelude.{true, ◌≡◌, ℕ, ◌+◌, ◌*◌, ◌≤◌, ◌<◌, length, replicate};
 ghost use Rattle.cd.specs.Diagrams.{limit};
 ghost use Rattle.filing.specs.Numberings.{Numbering, at};

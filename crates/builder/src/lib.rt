@@ -1,5 +1,7 @@
 // The text tested, then read; and the reader that holds the text, a cursor and the wish for infinite lengths. That is thin: each function takes it apart and hands
 // the three to `parse_from`.
+#![tactic(auto)]
+
 ghost use Rattle.std.specs.Prelude.{◌≡◌};
 ghost use Rattle.parse.specs.Reading.{high, read_from, read, answer};
 

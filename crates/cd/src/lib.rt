@@ -1,4 +1,6 @@
 // cd.rs of miratope-core: nodes, edges, references, refusals and diagrams.
+#![tactic(auto)]
+
 ghost use Rattle.std.specs.Prelude.{[], ◌∷◌, ◌≡◌, ◌<◌, ◌≤◌, take};
 ghost use Rattle.cd.specs.Arrays.{padded};
 ghost use Rattle.cd.specs.Letters.{letter_of};

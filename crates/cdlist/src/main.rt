@@ -1,5 +1,7 @@
 // Document 01's program `cdlist`: a text a line from the first 65,536 bytes of standard input, and the answer on each. Its argument may be the wish for infinite
 // lengths.
+#![tactic(auto)]
+
 ghost use Rattle.std.specs.Prelude.{◌+◌, ◌≤◌, ◌<◌, length};
 ghost use Rattle.cdlist.specs.Lists.{longest, Listed};
 ghost use Rattle.lines.specs.Blocks.{IsBlock};

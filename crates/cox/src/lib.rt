@@ -1,4 +1,6 @@
 // cox/mod.rs of miratope-core, with cox of its cd.rs: the matrix of a diagram, and the families. A square of doubles is one array, row r of column c at LIMIT × c + r.
+#![tactic(auto)]
+
 ghost use Rattle.std.specs.Prelude.{List, map, ◌≡◌, ◌<◌, ◌≤◌};
 ghost use Rattle.cd.specs.Diagrams.{Stored, limit, cd_of};
 ghost use Rattle.cd.specs.declared.Node.{Node};

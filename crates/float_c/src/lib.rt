@@ -1,4 +1,6 @@
 // The float layer for C to call, for comparison runs.
+#![tactic(auto)]
+
 ghost use Rattle.std.specs.Prelude.{◌≡◌, ◌≤◌, ◌^◌};
 ghost use Rattle.float.specs.Root.{root_of};
 ghost use Rattle.float.specs.Cosine.{cos_of};

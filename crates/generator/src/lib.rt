@@ -1,4 +1,6 @@
 // `Cd::generator`: the point that the mirrors and the nodes' values give, as the Rust computes it; and over walls the point at half a node's value from its wall.
+#![tactic(auto)]
+
 ghost use Rattle.std.specs.Prelude.{List, ◌≡◌, ℕ, ◌<◌, ◌≤◌, length, Float};
 ghost use Rattle.cd.specs.Diagrams.{Stored, limit, cd_of};
 ghost use Rattle.cd.specs.declared.Node.{Node as ANode};

@@ -1,5 +1,7 @@
 // The geometers' calls: matrices, mirrors and walls, the two generators, the reflections. Each has no `requires`. `walls` of what is not public tells Coxeter's
 // walls from the Rust's mirrors.
+#![tactic(auto)]
+
 ghost use Rattle.std.specs.Prelude.{List, ◌≡◌, ◌≤◌};
 ghost use Rattle.cd.specs.Diagrams.{Stored, limit, cd_of};
 ghost use Rattle.cd.specs.declared.Node.{Node};

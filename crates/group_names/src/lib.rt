@@ -1,4 +1,6 @@
 // Ticket K4: the names of the finite groups, their diagrams and orders.
+#![tactic(auto)]
+
 ghost use Rattle.std.specs.Prelude.{true, ◌≡◌, ◌*◌, ◌^◌, ◌<◌, ◌≤◌};
 ghost use Rattle.cd.specs.Diagrams.{limit};
 ghost use Rattle.filing.specs.Factorials.{factorial};

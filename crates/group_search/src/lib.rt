@@ -1,5 +1,7 @@
 // Ticket K4: which name fits each component. A component is tried against each name of its size: a search places the family's nodes one after another on nodes
 // of the component that are joined as the family's are.
+#![tactic(auto)]
+
 ghost use Rattle.std.specs.Prelude.{List, [], ◌≡◌, ℕ, ◌<◌, ◌≤◌, length};
 ghost use Rattle.cd.specs.Arrays.{padded};
 ghost use Rattle.cd.specs.Diagrams.{Stored, limit, cd_of};

@@ -1,4 +1,6 @@
 // A length in parentheses: the bytes between them. (parse.rs of miratope-core calls Rust's own f64 parsing here.)
+#![tactic(auto)]
+
 ghost use Rattle.std.specs.Prelude.{false, ◌≡◌, ◌<◌, ◌≤◌, ◌^◌, length, drop};
 ghost use Rattle.std.specs.Float.{inf};
 ghost use Rattle.float.specs.Decimal.{signed};

@@ -1,4 +1,6 @@
 // The public calls. None has a `requires`: any input ends with an answer or a refusal. A text is read with the wish for infinite lengths or without it.
+#![tactic(auto)]
+
 ghost use Rattle.std.specs.Prelude.{◌≡◌};
 ghost use Rattle.lexicon.specs.Files.{refusal as the-refusal, Files};
 ghost use Rattle.lexicon.specs.Reads.{Reads};

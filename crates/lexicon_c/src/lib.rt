@@ -1,5 +1,7 @@
 // The public calls for C: include/lexicon.h says what a caller must ensure. Each returns its answer's first number, 0 or the refusal's. A number is the wish
 // for infinite lengths: 0 without it, any other with it.
+#![tactic(auto)]
+
 ghost use Rattle.lent.specs.Outcomes.{Lends};
 ghost use Rattle.lent.specs.Shown.{of_square, of_generated, of_reflected};
 ghost use Rattle.geometry.specs.Points.{generator_of_text, wall_generator_of_text, reflections_of_text};

@@ -1,4 +1,6 @@
 // Ticket K4's public call. It has no `requires`: any text ends with the names of its components or with a refusal.
+#![tactic(auto)]
+
 ghost use Rattle.lexicon_names.specs.NamesText.{NamesText};
 
 use group_names::Groups;

@@ -1,4 +1,6 @@
 // A node or a reference, on slice and cursor.
+#![tactic(auto)]
+
 ghost use Rattle.std.specs.Prelude.{◌≡◌, ◌<◌, ◌≤◌, length, drop};
 ghost use Rattle.cd.specs.Letters.{letter_of};
 ghost use Rattle.node.specs.Nodes.{closing, last_byte, length_node, length_at, reference, letter_at, reference_at, letter_node, node_at};

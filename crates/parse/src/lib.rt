@@ -1,4 +1,6 @@
 // parse.rs of miratope-core: a text read into a diagram.
+#![tactic(auto)]
+
 ghost use Rattle.std.specs.Prelude.{◌≡◌, ◌≤◌, length};
 ghost use Rattle.parse.specs.Text.{text_from};
 ghost use Rattle.parse.specs.Reading.{Reading, joined, kept, answer};

@@ -1,4 +1,6 @@
 // A filing record read back to its diagram: well laid out, then the smallest.
+#![tactic(auto)]
+
 ghost use Rattle.std.specs.Prelude.{not, map, ◌≡◌, ◌+◌, ◌*◌, ◌<◌, ◌≤◌, length};
 ghost use Rattle.std.specs.Float.{binary64};
 ghost use Rattle.std.specs.Float.Ieee.{nan_bits};

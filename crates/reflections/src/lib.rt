@@ -1,4 +1,6 @@
 // The `gens` of `gen_iter`: for each mirror the reflection in it.
+#![tactic(auto)]
+
 ghost use Rattle.std.specs.Prelude.{◌≡◌, ◌<◌, ◌≤◌};
 ghost use Rattle.cd.specs.Diagrams.{limit};
 ghost use Rattle.reflections.specs.Reflections.{unit as the-unit, reflection as the-reflection};

@@ -1,5 +1,7 @@
 // Reads as `cdlist` does, and answers each line with a text's matrix, mirrors, walls, generators or reflections, or with a family's matrix, mirrors or walls,
 // each double by its bits. oracle/cox.py has the kinds of lines.
+#![tactic(auto)]
+
 ghost use Rattle.std.specs.Prelude.{◌+◌, ◌≤◌, ◌<◌, length};
 
 use cd::{LIMIT, SQUARE};

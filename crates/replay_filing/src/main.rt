@@ -1,5 +1,7 @@
 // Answers each line of its input with a text's record: its digest and numbering, its equality with another's, what it is read
 // back to once bytes are changed or cut off, or what a part of a buffer holds after the call. oracle/filing.py has the kinds of lines.
+#![tactic(auto)]
+
 ghost use Rattle.std.specs.Prelude.{◌+◌, ◌≤◌, ◌<◌, ◌≡◌, length};
 
 use cd::{Cd, LIMIT};

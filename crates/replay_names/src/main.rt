@@ -1,5 +1,7 @@
 // Reads as `cdlist` does, and answers each text, infinite lengths being wished, with its components' lowest nodes, names and orders, or with what refuses them.
 // oracle/names.py has the form of the answers.
+#![tactic(auto)]
+
 ghost use Rattle.std.specs.Prelude.{◌+◌, ◌*◌, ◌≤◌, length};
 ghost use Rattle.cd.specs.Diagrams.{limit};
 

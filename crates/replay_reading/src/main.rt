@@ -1,5 +1,7 @@
 // Reads as `cdlist` does, with the wish for infinite lengths as the Rust does, and writes the whole reading of each text: the nodes by their bits, the edges in
 // the order stored.
+#![tactic(auto)]
+
 ghost use Rattle.std.specs.Prelude.{◌+◌, ◌≤◌, ◌<◌, ◌≡◌, length};
 ghost use Rattle.cd.specs.Diagrams.{pair_limit, place_of};
 

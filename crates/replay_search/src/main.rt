@@ -1,4 +1,6 @@
 // Reads as `cdlist` does, and answers each text with how many numberings the search for its record carries to the end, or `no`.
+#![tactic(auto)]
+
 ghost use Rattle.std.specs.Prelude.{◌+◌, ◌≤◌, length};
 
 use parse::Answer;

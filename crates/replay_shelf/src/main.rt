@@ -1,6 +1,8 @@
 // Answers each line of its input, which spells a file, a record and the length of a buffer, with what the calls on shelf files answer
 // to them, and with a digest of the buffer after the record was added; or a file and the lengths of two buffers, with what the rescue of the
 // file answers, and with digests of both buffers. oracle/shelf.py has the form of lines.
+#![tactic(auto)]
+
 ghost use Rattle.std.specs.Prelude.{◌+◌, ◌≤◌, ◌<◌, ◌≡◌, length};
 
 use parse::Answer;

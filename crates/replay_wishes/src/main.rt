@@ -1,4 +1,6 @@
 // Reads as `cdlist` does, and answers each text twice: without the wish for infinite lengths, and with it.
+#![tactic(auto)]
+
 ghost use Rattle.std.specs.Prelude.{◌+◌, ◌≤◌, length};
 
 fn line(text: &[u8], out: &mut [u8], at: usize) -> usize

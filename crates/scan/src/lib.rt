@@ -1,4 +1,6 @@
 // parse.rs of miratope-core, its lowest part: spaces and edges, on slice and cursor.
+#![tactic(auto)]
+
 ghost use Rattle.std.specs.Prelude.{true, ◌≡◌, ◌+◌, ◌*◌, ◌-◌, ◌<◌, ◌≤◌, min, length, drop};
 ghost use Rattle.scan.specs.Bytes.{is_space, is_digit, digit};
 ghost use Rattle.scan.specs.Spaces.{skip};

@@ -1,4 +1,6 @@
 // Shelf files: the filing records of many articles in one file, each greater in byte order than the one before. No call has a `requires`; none touches a disk.
+#![tactic(auto)]
+
 ghost use Rattle.std.specs.Prelude.{◌++◌, ◌≡◌, ◌+◌, ◌*◌, ◌≤◌, length, take, drop};
 ghost use Rattle.cd.specs.Diagrams.{limit};
 ghost use Rattle.cd.specs.Minimal.{Decides};

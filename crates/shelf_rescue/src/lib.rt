@@ -1,4 +1,6 @@
 // The rescue of a shelf file: what can be read and rises is copied, and every place gets a mark. The call has no `requires` and touches no disk.
+#![tactic(auto)]
+
 ghost use Rattle.std.specs.Prelude.{◌≡◌};
 ghost use Rattle.cd.specs.Diagrams.{limit};
 ghost use Rattle.shelf_rescue.specs.Rescues.{Mark, not_rescued, Rescues};

@@ -1,4 +1,6 @@
 // The tables of a diagram: what its filing record is made of, for the search to look up.
+#![tactic(auto)]
+
 ghost use Rattle.std.specs.Prelude.{List, map, ◌≡◌, ◌+◌, ◌*◌, ◌≤◌, ◌<◌};
 ghost use Rattle.cd.specs.Diagrams.{Stored, limit, cd_of};
 ghost use Rattle.cd.specs.declared.Node.{Node as ANode};

@@ -1,0 +1,17 @@
+-- `float::root::root_by_digits` meets its contract. The invariant: the radicand's digits so far are root * root + rest, those left stand in `left`, at the top of the word.
+use mathlib.Core.Path.{◌≡◌, refl, sym, ap, ◌∙◌}
+use Prim.Native.Nat.{ℕ, ◌+◌, ◌-◌, ◌*◌, ◌/◌, ◌%◌, ◌^◌, ◌≤◌, ◌<◌}
+use native.Mathlib.Omega.{arith}
+use Rattle.float.proofs.Steps.{turn, next_power, longer, under, whole}
+use Rattle.float.proofs.root.root_by_digits.Given as goal
+
+abbrev pub invariant-loop-i : goal.invariant-loop-i
+invariant-loop-i l =
+    ((l.s.root * l.s.root + l.s.rest) * 2 ^ 64 + l.left ≡ l.m * 1024 * 4 ^ l.i)
+    × (l.s.rest ≤ 2 * l.s.root)
+    × (l.s.root < 2 ^ l.i)
+    × (l.left < 2 ^ 64)
+    × (l.i ≤ 54)
+
+abbrev pub decreases-loop-i : goal.decreases-loop-i
+decreases-loop-i l = 54 - l.i
