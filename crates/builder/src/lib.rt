@@ -40,7 +40,7 @@ pub fn parse_from(s: &[u8], at: usize, wish: bool) -> Read
     parse::read_text(s, at, wish)
 }
 
-#[derive(Drop)]
+#[derive(Clone, Copy)]
 pub struct CdBuilder<'a> {
     pub diagram: &'a [u8],
     pub at: usize,

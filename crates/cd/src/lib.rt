@@ -18,27 +18,27 @@ pub const PAIRS: usize = 45;
 pub const SQUARE: usize = 81;
 
 // Compared by match and by bits.
-#[derive(Drop)]
+#[derive(Clone, Copy)]
 pub enum Node {
     Unringed,
     Ringed(f64),
     Snub(f64),
 }
 
-#[derive(Drop)]
+#[derive(Clone, Copy)]
 pub struct Edge {
     pub num: u32,
     pub den: u32,
 }
 
 // An index, or an offset from the end.
-#[derive(Drop)]
+#[derive(Clone, Copy)]
 pub enum NodeRef {
     Absolute(u8),
     Negative(u8),
 }
 
-#[derive(Drop)]
+#[derive(Clone, Copy)]
 pub struct EdgeRef {
     pub first: NodeRef,
     pub other: NodeRef,
@@ -46,7 +46,7 @@ pub struct EdgeRef {
 }
 
 // What a text, a buffer, a record, a file, mirrors, a generator or a family is refused with; document 01's numbers are `number_of` in specs/Refusals.antt.
-#[derive(Drop)]
+#[derive(Clone, Copy)]
 pub enum CdError {
     TooLong { pos: usize },
     NotAscii { pos: usize },
@@ -74,7 +74,7 @@ pub enum CdError {
 }
 
 // A few numbers: the first `count` of `at`.
-#[derive(Drop)]
+#[derive(Clone, Copy)]
 pub struct Numbers {
     pub at: [usize; 4],
     pub count: usize,
@@ -135,21 +135,21 @@ fn no_field(number: usize) -> Numbers
     }
 }
 
-#[derive(Drop)]
+#[derive(Clone, Copy)]
 pub struct Place {
     pub node: Node,
 }
 
 // What joins two nodes, or a node to itself: nothing, or the edge that was stored as the rank-th, from 1.
 // (No padding, and all zero where nothing is stored: such places are filled and copied as plain memory.)
-#[derive(Drop)]
+#[derive(Clone, Copy)]
 pub struct Pair {
     pub rank: u32,
     pub edge: Edge,
 }
 
 // A diagram: its nodes in the order read, and a place for each pair, loops included.
-#[derive(Drop)]
+#[derive(Clone, Copy)]
 pub struct Cd {
     pub nodes: [Place; LIMIT],
     pub count: usize,
@@ -158,7 +158,7 @@ pub struct Cd {
 }
 
 // The node that a letter stands for, if it does.
-#[derive(Drop)]
+#[derive(Clone, Copy)]
 pub enum Letter {
     Stands(Node),
     Unknown,
@@ -250,7 +250,7 @@ pub fn reduced(e: Edge) -> Edge
 }
 
 // Where a reference leads.
-#[derive(Drop)]
+#[derive(Clone, Copy)]
 pub enum Found {
     At(usize),
     Missing,
@@ -281,7 +281,7 @@ pub fn index(r: NodeRef, len: usize) -> Found
 }
 
 // What is to be done with an edge that waits.
-#[derive(Drop)]
+#[derive(Clone, Copy)]
 pub enum Ends {
     // It is worth 2, and dropped unseen.
     Dropped,

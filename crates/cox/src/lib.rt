@@ -12,7 +12,7 @@ use cd::{Cd, LIMIT, PAIRS, Pair, SQUARE};
 pub mod families; // families.rt: the matrices of A, B, D, E and H
 
 // The matrix of `count` nodes; past them, that of nodes that nothing joins.
-#[derive(Drop)]
+#[derive(Clone, Copy)]
 pub struct Cox {
     pub at: [f64; SQUARE],
     pub count: usize,

@@ -12,7 +12,7 @@ pub const PI: f64 = 3.141592653589793;
 
 pub const EPS: f64 = 1e-7;
 
-#[derive(Drop)]
+#[derive(Clone, Copy)]
 pub struct Constants {
     pub sqrt_2: f64,
     pub sqrt_3: f64,

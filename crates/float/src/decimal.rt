@@ -3,7 +3,7 @@ ghost use Rattle.std.specs.Prelude.{true, ◌≡◌, ◌≤◌, ◌^◌};
 ghost use Rattle.float.specs.Numbers.{whole};
 ghost use Rattle.float.specs.Decimal.{in_range, value, decimal_of};
 
-#[derive(Drop)]
+#[derive(Clone, Copy)]
 pub enum Literal {
     Value(f64),
     // Another power of ten than the port takes.

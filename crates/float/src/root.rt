@@ -6,7 +6,7 @@ ghost use Rattle.float.specs.Root.{units, root_bits, root_of};
 ghost use Rattle.float.specs.Steps.{Stepped, WholeRoot, Normal, Shifted};
 
 // A root so far, and what is left of the radicand's part so far.
-#[derive(Drop)]
+#[derive(Clone, Copy)]
 pub struct Digits {
     pub root: u64,
     pub rest: u64,
@@ -124,7 +124,7 @@ fn whole_root(m: u64) -> u64
 }
 
 // m * 2 ^ a.
-#[derive(Drop)]
+#[derive(Clone, Copy)]
 pub struct Power {
     pub m: u64,
     pub a: u64,

@@ -12,7 +12,7 @@ ghost use Rattle.cox.specs.Squares.{Square, flat, flat_square, dot as the-dot};
 use cd::{Cd, LIMIT, Node, SQUARE};
 
 // It carries its coordinates, the first `count`, and its circumradius.
-#[derive(Drop)]
+#[derive(Clone, Copy)]
 pub struct Generator {
     pub at: [f64; LIMIT],
     pub count: usize,

@@ -18,20 +18,20 @@ use parse::Answer;
 use reflections::Reflections;
 
 // A matrix, or mirrors or walls as columns: row r of column c at 9 × c + r, for the first `count` of each; or what refuses them.
-#[derive(Drop)]
+#[derive(Clone, Copy)]
 pub struct Square {
     pub answer: Answer,
     pub at: [f64; SQUARE],
     pub count: usize,
 }
 
-#[derive(Drop)]
+#[derive(Clone, Copy)]
 pub struct Generated {
     pub answer: Answer,
     pub generator: Generator,
 }
 
-#[derive(Drop)]
+#[derive(Clone, Copy)]
 pub struct Reflected {
     pub answer: Answer,
     pub reflections: Reflections,

@@ -10,7 +10,7 @@ use cd::LIMIT;
 use parse::Answer;
 
 // A, B and D with their size, I2 with its p.
-#[derive(Drop)]
+#[derive(Clone, Copy)]
 pub enum Name {
     A(usize),
     B(usize),
@@ -25,14 +25,14 @@ pub enum Name {
 }
 
 // A name's letter, and the number behind it: I2 has its p.
-#[derive(Drop)]
+#[derive(Clone, Copy)]
 pub struct NameParts {
     pub letter: u8,
     pub number: u64,
 }
 
 // A component: its lowest node, its name and the group's order.
-#[derive(Drop)]
+#[derive(Clone, Copy)]
 pub struct Group {
     pub node: usize,
     pub name: Name,
@@ -40,7 +40,7 @@ pub struct Group {
 }
 
 // The components by rising lowest node, the first `count` of `at`, or what refuses them.
-#[derive(Drop)]
+#[derive(Clone, Copy)]
 pub struct Groups {
     pub answer: Answer,
     pub at: [Group; LIMIT],

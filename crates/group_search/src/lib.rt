@@ -173,7 +173,7 @@ fn candidates(m: usize, p: u32) -> [Name; CANDIDATES]
 }
 
 // What is known of a component's name.
-#[derive(Drop)]
+#[derive(Clone, Copy)]
 pub enum Known {
     Is(Name),
     Nothing,

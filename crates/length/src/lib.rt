@@ -9,7 +9,7 @@ ghost use Rattle.length.specs.Kept.{Took, Signs, kept};
 
 use float::decimal::Literal;
 
-#[derive(Drop)]
+#[derive(Clone, Copy)]
 pub enum Length {
     Value(f64),
     Infinite(f64),
@@ -19,7 +19,7 @@ pub enum Length {
 }
 
 // A run of digits: its number on top of an earlier one, up to a bound, and the place after it.
-#[derive(Drop)]
+#[derive(Clone, Copy)]
 pub struct Digits {
     pub value: u64,
     pub next: usize,
@@ -75,7 +75,7 @@ pub fn is_word(t: &[u8], at: usize, word: &[u8]) -> bool
     i == t.len()
 }
 
-#[derive(Drop)]
+#[derive(Clone, Copy)]
 pub struct Sign {
     pub minus: bool,
     pub next: usize,
@@ -108,7 +108,7 @@ pub fn take_sign(t: &[u8], at: usize) -> Sign
 }
 
 // What follows the digits: whether it is an exponent, or nothing, and the exponent's sign, number up to 1000 and count of digits.
-#[derive(Drop)]
+#[derive(Clone, Copy)]
 pub struct Exponent {
     pub ok: bool,
     pub minus: bool,

@@ -10,7 +10,7 @@ use cd::{Cd, CdError, LIMIT};
 use parse::{Answer, Read};
 
 // A text's diagram, or what refuses it, and whether the diagram is minimal.
-#[derive(Drop)]
+#[derive(Clone, Copy)]
 pub struct Reading {
     pub read: Read,
     pub minimal: bool,
@@ -37,7 +37,7 @@ pub fn read(text: &[u8], wish: bool) -> Reading
 }
 
 // That a record was written, or what refuses it; and the first numbering that gives the record: for each of the first `count` places its old node.
-#[derive(Drop)]
+#[derive(Clone, Copy)]
 pub struct Filed {
     pub answer: Answer,
     pub numbering: [usize; LIMIT],

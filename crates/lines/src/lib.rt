@@ -22,7 +22,7 @@ fn say(line: &[u8]) {
 }
 
 // Whether a program's arguments are known, and whether they are the wish for infinite lengths.
-#[derive(Drop)]
+#[derive(Clone, Copy)]
 pub struct Argument {
     pub known: bool,
     pub infinite: bool,
@@ -134,7 +134,7 @@ pub fn flushed(out: &[u8], at: usize) -> usize
 }
 
 // A block of answers in a buffer: the place in the input where the next one starts, and how many bytes of the buffer it takes.
-#[derive(Drop)]
+#[derive(Clone, Copy)]
 pub struct Block {
     pub next: usize,
     pub to: usize,

@@ -9,7 +9,7 @@ use cd::{CdError, Letter, Node, NodeRef};
 use length::Length;
 
 // Each with the place after it.
-#[derive(Drop)]
+#[derive(Clone, Copy)]
 pub enum NodeRead {
     Added(Node, usize),
     Referred(NodeRef, usize),

@@ -10,20 +10,20 @@ use node::NodeRead;
 use scan::EdgeRead;
 
 // Edges wait here. A turn that adds one reads two bytes, so 128 places do for 255.
-#[derive(Drop)]
+#[derive(Clone, Copy)]
 pub struct Queue {
     pub at: [EdgeRef; 128],
     pub count: usize,
 }
 
-#[derive(Drop)]
+#[derive(Clone, Copy)]
 pub enum Answer {
     Accepted,
     Refused(CdError),
 }
 
 // A diagram, or a refusal with the diagram without nodes.
-#[derive(Drop)]
+#[derive(Clone, Copy)]
 pub struct Read {
     pub answer: Answer,
     pub cd: Cd,

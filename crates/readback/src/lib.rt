@@ -151,7 +151,7 @@ fn read_nodes(s: &[u8], n: usize) -> [Place; LIMIT]
 }
 
 // The pair places, and how many edges they hold.
-#[derive(Drop)]
+#[derive(Clone, Copy)]
 pub struct Edges {
     pub pairs: [Pair; PAIRS],
     pub count: usize,

@@ -10,13 +10,13 @@ ghost use Rattle.cox.specs.Squares.{Square, flat_square, dot as the-dot};
 
 use cd::{LIMIT, SQUARE};
 
-#[derive(Drop)]
+#[derive(Clone, Copy)]
 pub struct Matrix {
     pub at: [f64; SQUARE],
 }
 
 // One matrix for each of `count` mirrors.
-#[derive(Drop)]
+#[derive(Clone, Copy)]
 pub struct Reflections {
     pub of: [Matrix; LIMIT],
     pub count: usize,

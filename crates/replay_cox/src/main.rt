@@ -187,7 +187,7 @@ fn size(digits: &[u8]) -> usize {
     n
 }
 
-#[derive(Drop)]
+#[derive(Clone, Copy)]
 struct Family {
     letter: u8,
     size: usize,

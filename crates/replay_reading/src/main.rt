@@ -59,7 +59,7 @@ fn nodes(out: &mut [u8], at: usize, cd: Cd) -> usize
 }
 
 // The nodes of a pair, the smaller first.
-#[derive(Drop)]
+#[derive(Clone, Copy)]
 struct Ends {
     a: usize,
     b: usize,

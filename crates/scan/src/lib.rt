@@ -53,7 +53,7 @@ pub fn grown(v: u64, b: u8, most: u64) -> u64
 }
 
 // What a byte is to an edge's run.
-#[derive(Drop)]
+#[derive(Clone, Copy)]
 pub enum Sort {
     Digit,
     Slash,
@@ -73,13 +73,13 @@ pub fn sort_of(b: u8) -> Sort
 }
 
 // The number before the last slash, if there was one.
-#[derive(Drop)]
+#[derive(Clone, Copy)]
 pub enum Before {
     Nothing,
     Number(u32),
 }
 
-#[derive(Drop)]
+#[derive(Clone, Copy)]
 pub enum EdgeRead {
     NoEdge,
     // The edge, and the place after it.

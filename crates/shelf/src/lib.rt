@@ -58,7 +58,7 @@ fn is_right(file: &[u8], i: usize) -> bool
 }
 
 // That a file is a shelf, and of how many places; or what is wrong with it.
-#[derive(Drop)]
+#[derive(Clone, Copy)]
 pub struct Checked {
     pub answer: Answer,
     pub places: usize,
@@ -96,7 +96,7 @@ pub fn check(file: &[u8]) -> Checked
 // ---- a record looked up
 
 // Whether a record is in a file, and its place: where it is, or where it would stand. Or what refuses it.
-#[derive(Drop)]
+#[derive(Clone, Copy)]
 pub struct Found {
     pub answer: Answer,
     pub present: bool,
@@ -199,7 +199,7 @@ pub fn find(file: &[u8], bytes: &[u8]) -> Found
 // ---- a record added
 
 // The place of the record that was added, or what refuses it.
-#[derive(Drop)]
+#[derive(Clone, Copy)]
 pub struct Added {
     pub answer: Answer,
     pub place: usize,

@@ -10,7 +10,7 @@ use parse::Answer;
 use records::RECORD;
 
 // How many places were kept, and the length of the tail; or what refuses the buffers.
-#[derive(Drop)]
+#[derive(Clone, Copy)]
 pub struct Rescued {
     pub answer: Answer,
     pub kept: usize,

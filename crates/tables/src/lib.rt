@@ -10,7 +10,7 @@ ghost use Rattle.tables.specs.Tables.{IsNumber, Numbers, IsKept, pair_number, Pa
 
 use cd::{Cd, LIMIT, Node, Pair, SQUARE};
 
-#[derive(Drop)]
+#[derive(Clone, Copy)]
 pub struct Tables {
     pub count: usize,
     pub kinds: [u8; LIMIT],

@@ -1,0 +1,34 @@
+-- `minimal::relabelled` meets its contract. The invariant: the labels below k are replaced, those from k on are as they were; the measure is what is left of 9.
+-- A turn stores at k what stands in the place of the label there.
+use Prim.Native.Nat.{◌≤◌, ◌-◌}
+use mathlib.Core.Logic.{⊎_elim}
+use mathlib.Core.Path.{◌≡◌, refl, sym, ◌∙◌}
+use native.Mathlib.Omega.{arith}
+use borrow.Author.Rules.{rules}
+use lib.ListN.{length, set}
+use lib.Seq.{set-get_or}
+use Rattle.minimal.specs.Labels.{label_in, instead}
+use Rattle.cd.proofs.Arrays.{replaced, replaced_next, get_or_replaced}
+use Rattle.minimal.proofs.Labelling.{instead_yes, instead_no}
+use Rattle.minimal.proofs.relabelled.Goals as goal
+use Rattle.minimal.proofs.relabelled.Goals.{Joined-out-k, Start}
+
+long : (c : Start) → length c.args.of ≡ 9
+long c = search rules
+
+pub loop-k-init : goal.loop-k-init
+loop-k-init c = (search rules, refl)
+
+-- in either arm
+turn : (c : Joined-out-k) → let a = c.args in let l = c.loop-k in c.if-out-k.out ≡ set l.out l.k (instead a.from a.to (label_in l.out l.k))
+turn c = ⊎_elim (λ w. w.1 ∙ rw (instead_yes _ _ _ w.0.taken)) (λ w. w.1 ∙ rw (instead_no _ _ _ w.0.left) (sym (set-get_or _ _ 0))) c.if-out-k.branch-raw
+
+pub loop-k-preserved : goal.loop-k-preserved
+loop-k-preserved c =
+    let l = c.loop-k in
+    (search rules, turn c ∙ rw l.invariant.1 (replaced_next _ 0 l.k c.args.of (omega (arith, long (goal.at.loop-k-preserved c).Start))))
+
+pub returns : goal.returns
+returns c k h =
+    let l = c.loop-k in
+    rw l.invariant.1 (get_or_replaced _ 0 l.k c.args.of k (omega arith) (omega (arith, long (goal.at.returns c).Start)))

@@ -1,0 +1,22 @@
+-- `scan::skip_whitespace` meets its contract. The invariant: skipping from here leads where skipping from `at` leads. The measure is what is left of the length.
+--
+use Prim.Native.Nat.{◌≤◌, ◌-◌}
+use mathlib.Core.Path.{◌≡◌, sym, ◌∙◌}
+use lib.ListN.{length, drop}
+use borrow.Author.Rules.{rules}
+use Rattle.scan.specs.Spaces.{skip}
+use Rattle.scan.proofs.Spaces.{skip_at_space, skip_at_other, skip_at_end}
+use Rattle.scan.proofs.skip_whitespace.Goals as goal
+
+pub loop-i-preserved : goal.loop-i-preserved
+loop-i-preserved c =
+    let e = sym c.is_space.ensures ∙ c.if-is_space.true in
+    (search rules, skip_at_space _ _ c.loop-i-test.true e ∙ c.loop-i.invariant.1, search rules)
+
+pub returns-else-is_space : goal.returns-else-is_space
+returns-else-is_space c =
+    let e = sym c.is_space.ensures ∙ c.if-is_space.false in
+    (skip_at_other _ _ c.loop-i-test.true e ∙ c.loop-i.invariant.1, search rules, search rules)
+
+pub returns : goal.returns
+returns c = (skip_at_end _ _ c.loop-i-test.false ∙ c.loop-i.invariant.1, search rules, search rules)

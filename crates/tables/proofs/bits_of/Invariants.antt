@@ -1,0 +1,23 @@
+-- `tables::bits_of` meets its contract. The invariant: the bits below i are those of the nodes; the measure is what is left of 9.
+use Prim.Native.Nat.{ℕ, ◌-◌, ◌≤◌}
+use mathlib.Core.List.{map}
+use mathlib.Core.Path.{◌≡◌, refl}
+use native.Mathlib.Omega.{arith}
+use borrow.Author.Rules.{rules}
+use lib.ListN.{length, take}
+use Rattle.cd.specs.Diagrams.{limit, place}
+use Rattle.cd.specs.declared.Node.TheVariants.{Unringed}
+use Rattle.cd.specs.declared.Place.{Place}
+use Rattle.cd.proofs.Arrays.{length_of_image, filled_next, filled_all}
+use Rattle.tables.specs.Diagrams.{filed}
+use Rattle.tables.proofs.bits_of.Given as goal
+
+-- what is told of a node place
+abbrev pub told : Place → ℕ
+told p = (filed p.node).bits
+
+abbrev pub invariant-loop-i : goal.invariant-loop-i
+invariant-loop-i l = (l.i ≤ limit) × (length l.out ≡ limit) × (take l.i l.out ≡ take l.i (map told l.cd.nodes))
+
+abbrev pub decreases-loop-i : goal.decreases-loop-i
+decreases-loop-i l = limit - l.i
