@@ -22,12 +22,12 @@ grown_kept v d m = omega arith
 pub number_kept : (v m : ℕ) (ds : List ℕ) → min (number (min v m) ds) m ≡ min (number v ds) m
 unfolding number
 number_kept v m [] = omega arith
-number_kept v m (d ∷ ds) = sym (number_kept _ m ds) ∙ rw (grown_kept v (digit d) m) (number_kept _ m ds)
+number_kept v m (d ∷ ds) = sym (number_kept (min v m * 10 + digit d) m ds) ∙ rw (grown_kept v (digit d) m) (number_kept (v * 10 + digit d) m ds)
 
 pub number_append : (v : ℕ) (xs ys : List ℕ) → number v (xs ++ ys) ≡ number (number v xs) ys
 unfolding number
 number_append v [] ys = refl
-number_append v (x ∷ xs) ys = number_append _ xs ys
+number_append v (x ∷ xs) ys = number_append (v * 10 + digit x) xs ys
 
 module _ (t : List ℕ) (i v most : ℕ) where
   pub took_digit : (r : Digits) → i < length t → is_digit (get_or t i 0) ≡ true → Took t (i + 1) (min (v * 10 + digit (get_or t i 0)) most) most r → Took t i v most r

@@ -11,6 +11,7 @@ use borrow.Author.Rules.{rules}
 use Rattle.minimal.specs.Labels.{label_in}
 use Rattle.minimal.proofs.Rings.{ringed_in, RingIn, decided_minimal, decided_not_minimal}
 use Rattle.minimal.proofs.minimal.Goals as goal
+use Rattle.minimal.proofs.minimal.Goals.{then-of-i+else-is_ringed, else-of-i}
 
 pub component-init : goal.component-init
 component-init c = (search rules, λ k h. absurd (not-suc-le-zero h))
@@ -31,7 +32,7 @@ component-preserved c = (
 pub loop-i-preserved : goal.loop-i-preserved
 loop-i-preserved c =
     let l = c.loop-i in
-    (search rules, l.invariant.1, below_more _ _ l.invariant.2 (⊎_elim (λ w e. sym w.2.ensures ∙ w.3.left) (λ w e. absurd (w.left e)) c.if-of-i.branch))
+    (search rules, l.invariant.1, below_more _ _ l.invariant.2 (elim c.if-of-i.branch [ then-of-i+else-is_ringed w ↦ λ e. sym w.is_ringed.ensures ∙ w.if-is_ringed.false | else-of-i w ↦ λ e. absurd (w.if-of-i.false e) ]))
 
 pub returns-in-component : goal.returns-in-component
 returns-in-component c ns es held =

@@ -11,7 +11,7 @@ use Rattle.minimal.specs.Labels.{label_in, instead}
 use Rattle.cd.proofs.Arrays.{replaced, replaced_next, get_or_replaced}
 use Rattle.minimal.proofs.Labelling.{instead_yes, instead_no}
 use Rattle.minimal.proofs.relabelled.Goals as goal
-use Rattle.minimal.proofs.relabelled.Goals.{Joined-out-k, Start}
+use Rattle.minimal.proofs.relabelled.Goals.{Joined-out-k, Start, then-out-k, else-out-k}
 
 long : (c : Start) → length c.args.of ≡ 9
 long c = search rules
@@ -21,7 +21,11 @@ loop-k-init c = (search rules, refl)
 
 -- in either arm
 turn : (c : Joined-out-k) → let a = c.args in let l = c.loop-k in c.if-out-k.out ≡ set l.out l.k (instead a.from a.to (label_in l.out l.k))
-turn c = ⊎_elim (λ w. w.1 ∙ rw (instead_yes _ _ _ w.0.taken)) (λ w. w.1 ∙ rw (instead_no _ _ _ w.0.left) (sym (set-get_or _ _ 0))) c.if-out-k.branch-raw
+turn c =
+    elim c.if-out-k.branch [
+      | then-out-k w ↦ w.out-is ∙ rw (instead_yes _ _ _ w.if-out-k.true)
+      | else-out-k w ↦ w.out-is ∙ rw (instead_no _ _ _ w.if-out-k.false) (sym (set-get_or _ _ 0))
+    ]
 
 pub loop-k-preserved : goal.loop-k-preserved
 loop-k-preserved c =

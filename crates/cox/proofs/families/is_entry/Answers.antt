@@ -1,0 +1,13 @@
+-- `cox::families::is_entry` meets its contract: where the first test failed, i is not a or j is not b.
+use mathlib.Core.Logic.{⊎_elim}
+use Rattle.cox.proofs.Mirrored.{entry_here, entry_mirrored, entry_other}
+use Rattle.cox.proofs.families.is_entry.Goals as goal
+
+pub returns-then-j-b : goal.returns-then-j-b
+returns-then-j-b c = entry_here _ _ _ _ c.if-i-a.true c.if-j-b.true
+
+pub returns-then-i-b : goal.returns-then-i-b
+returns-then-i-b c = entry_mirrored _ _ _ _ (⊎_elim (λ w p q. w.1.left q) (λ w p q. w.left p) c.if-i-a.branch) c.if-i-b.true
+
+pub returns : goal.returns
+returns c = entry_other _ _ _ _ (⊎_elim (λ w p q. w.1.left q) (λ w p q. w.left p) c.if-i-a.branch) (λ p q. c.if-i-b.false p)

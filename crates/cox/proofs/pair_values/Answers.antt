@@ -1,0 +1,28 @@
+-- `cox::pair_values` meets its contract. The invariant: the first k values are those of their pairs; the measure is what is left of the pairs.
+use mathlib.Core.List.{map}
+use mathlib.Core.Path.{◌≡◌, refl}
+use Prim.Native.Nat.{◌-◌, ◌≤◌}
+use native.Mathlib.Omega.{arith}
+use borrow.Author.Rules.{rules}
+use lib.ListN.{length, take}
+use Rattle.cd.specs.Diagrams.{none, pair_limit}
+use Rattle.cd.proofs.Arrays.{filled_next, filled_all}
+use Rattle.cox.specs.Shown.{pair_value}
+use Rattle.cox.proofs.pair_values.Goals as goal
+
+pub loop-k-init : goal.loop-k-init
+loop-k-init c = (omega arith, refl, refl)
+
+pub loop-k-preserved : goal.loop-k-preserved
+loop-k-preserved c =
+    let l = c.loop-k in
+    let ps = c.args.pairs in
+    let long : length ps ≡ pair_limit = search rules in
+    (omega arith, search rules, rw c.pair_value.ensures (filled_next pair_value ps l.out l.k l.invariant.2 none (omega arith) (omega arith)))
+
+pub returns : goal.returns
+returns c =
+    let l = c.loop-k in
+    let ps = c.args.pairs in
+    let long : length ps ≡ pair_limit = search rules in
+    filled_all pair_value ps l.out l.k l.invariant.2 (omega arith) (omega arith)

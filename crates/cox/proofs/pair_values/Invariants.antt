@@ -1,0 +1,17 @@
+-- `cox::pair_values` meets its contract. The invariant: the first k values are those of their pairs; the measure is what is left of the pairs.
+use mathlib.Core.List.{map}
+use mathlib.Core.Path.{◌≡◌, refl}
+use Prim.Native.Nat.{◌-◌, ◌≤◌}
+use native.Mathlib.Omega.{arith}
+use borrow.Author.Rules.{rules}
+use lib.ListN.{length, take}
+use Rattle.cd.specs.Diagrams.{none, pair_limit}
+use Rattle.cd.proofs.Arrays.{filled_next, filled_all}
+use Rattle.cox.specs.Shown.{pair_value}
+use Rattle.cox.proofs.pair_values.Given as goal
+
+abbrev pub invariant-loop-k : goal.invariant-loop-k
+invariant-loop-k l = (l.k ≤ pair_limit) × (length l.out ≡ pair_limit) × (take l.k l.out ≡ take l.k (map pair_value l.pairs))
+
+abbrev pub decreases-loop-k : goal.decreases-loop-k
+decreases-loop-k l = pair_limit - l.k
