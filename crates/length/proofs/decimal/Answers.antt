@@ -10,7 +10,7 @@ use Rattle.length.specs.Literals.{fraction}
 use Rattle.length.proofs.Decimals.{fraction_at_other, fraction_at_end, decimal_plain, decimal_pointed}
 use Rattle.length.proofs.Exponents.{kept_small}
 use Rattle.length.proofs.decimal.Goals as goal
-use Rattle.length.proofs.decimal.Goals.{Joined-i-t}
+use Rattle.length.proofs.decimal.Goals.{Joined-i-t, then-i-t+else-t-i-eq46, else-i-t}
 
 pub judged-requires : goal.judged-requires
 judged-requires c = (omega arith, omega arith, kept_small _ _ c.take_exponent.ensures)
@@ -24,7 +24,11 @@ judged-requires-2 c = (omega arith, omega arith, kept_small _ _ c.take_exponent-
 
 -- a byte that is no point, or the end
 no-point : (c : Joined-i-t) → let i = c.take_digits-a.result.next in let t = c.args.t.now in fraction (drop i t) ≡ record { front = []; rest = drop i t }
-no-point c = ⊎_elim (λ w. fraction_at_other _ _ w.0.taken w.2.left) (λ w. fraction_at_end _ _ w.left) c.if-i-t.branch
+no-point c =
+    elim c.if-i-t.branch [
+      | then-i-t+else-t-i-eq46 w ↦ fraction_at_other _ _ w.if-i-t.true w.if-t-i-eq46.false
+      | else-i-t w ↦ fraction_at_end _ _ w.if-i-t.false
+    ]
 
 pub returns : goal.returns
 returns c =

@@ -9,14 +9,22 @@ use borrow.Author.Tests.{eq-eqb, ne_eqb, lt-ltb, le-ltb}
 use Rattle.scan.specs.Bytes.{is}
 use Rattle.length.proofs.Exponents.{exponent_at_e, exponent_at_other, exponent_at_end}
 use Rattle.length.proofs.take_exponent.Goals as goal
-use Rattle.length.proofs.take_exponent.Goals.{Joined-from-next, Joined-then-b-eq101}
+use Rattle.length.proofs.take_exponent.Goals.{Joined-from-next, Joined-then-b-eq101, then-b-eq101-via-then-b-eq101, then-b-eq101-via-else-b-eq101+then-b-eq69, then-from-next, else-from-next}
 
 -- what the tests found: an e or an E, and digits to the end
 letter : (c : Joined-then-b-eq101) → let s = c.args in is "e" (get_or s.t.now s.at 0) || is "E" (get_or s.t.now s.at 0) ≡ true
-letter c = ⊎_elim (λ w. rw (eq-eqb _ 101 w.taken)) (λ w. rw (ne_eqb _ 101 w.0.left) w.1.taken) c.then-b-eq101.branch
+letter c =
+    elim c.then-b-eq101.branch [
+      | then-b-eq101-via-then-b-eq101 w ↦ rw (eq-eqb _ 101 w.if-b-eq101.true)
+      | then-b-eq101-via-else-b-eq101+then-b-eq69 w ↦ rw (ne_eqb _ 101 w.if-b-eq101.false) w.if-b-eq69.true-raw
+    ]
 
 whole : (c : Joined-from-next) → c.if-from-next.result ≡ ltb c.take_sign-g.result.next c.take_digits-d.result.next && eqb c.take_digits-d.result.next (length c.args.t.now)
-whole c = ⊎_elim (λ w. w.1 ∙ rw (lt-ltb _ _ w.0.taken)) (λ w. w.1 ∙ rw (le-ltb _ _ w.0.left)) c.if-from-next.branch
+whole c =
+    elim c.if-from-next.branch [
+      | then-from-next w ↦ w.result-is ∙ rw (lt-ltb _ _ w.if-from-next.true)
+      | else-from-next w ↦ w.result-is ∙ rw (le-ltb _ _ w.if-from-next.false)
+    ]
 
 pub returns-then-b-eq101 : goal.returns-then-b-eq101
 returns-then-b-eq101 c =

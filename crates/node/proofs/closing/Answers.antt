@@ -1,0 +1,20 @@
+-- `node::closing` meets its contract. The invariant: the `)` that is found from here on is the one found from `at` on. The measure is what is left of the
+-- length.
+use Prim.Native.Nat.{◌≤◌, ◌-◌}
+use mathlib.Core.Path.{◌≡◌, ◌∙◌}
+use lib.ListN.{length, drop}
+use borrow.Author.Rules.{rules}
+use Rattle.node.specs.Nodes.{closing}
+use Rattle.node.proofs.NodeLaws.{closing_here, closing_on, closing_at_end}
+use Rattle.node.proofs.closing.Goals as goal
+
+pub returns-then-s-i-eq41 : goal.returns-then-s-i-eq41
+returns-then-s-i-eq41 c =
+    (closing_here _ _ c.loop-i-test.true c.if-s-i-eq41.true ∙ c.loop-i.invariant.1, search rules, search rules)
+
+pub loop-i-preserved : goal.loop-i-preserved
+loop-i-preserved c =
+    (search rules, closing_on _ _ c.loop-i-test.true c.if-s-i-eq41.false ∙ c.loop-i.invariant.1, search rules)
+
+pub returns : goal.returns
+returns c = (closing_at_end _ _ c.loop-i-test.false ∙ c.loop-i.invariant.1, search rules, search rules)
