@@ -1,4 +1,4 @@
--- `shelf::fits` meets its contract. Assumes nothing.
+-- `shelf::fits` meets its contract.
 use Prim.Native.Nat.{◌-◌}
 use native.Mathlib.Omega.{arith}
 use lib.ListN.{length}
@@ -6,17 +6,13 @@ use borrow.Author.Tests.{leb-true, le-leb}
 use Rattle.cd.specs.Diagrams.{limit}
 use Rattle.cd.proofs.Decided.{decides_no}
 use Rattle.filing.specs.Records.{record_length}
-use Rattle.shelf.proofs.fits.Statement.{statement}
-use Rattle.shelf.proofs.fits.Tie as tie
+use Rattle.shelf.proofs.fits.Goals as goal
 
-returns : tie.Need-returns
-returns c = decides_no (λ h. omega arith)
+pub returns-then-m-lt-RECORD : goal.returns-then-m-lt-RECORD
+returns-then-m-lt-RECORD c = decides_no (λ h. omega arith)
 
-returns-2 : tie.Need-returns-2
-returns-2 c =
-    let a = c.before.args in
+pub returns : goal.returns
+returns c =
+    let a = c.args in
     let room = a.m - record_length limit in
     record { only_when = λ e. omega (arith, leb-true (length a.file.now) room e); when = λ h. le-leb (length a.file.now) room (omega arith) }
-
-pub fits-spec : {M : Type 1} → statement M
-fits-spec = tie.close (tie.spec returns returns-2)
