@@ -1,4 +1,4 @@
--- `lent::show_groups` meets its contract: refused, too short, shown (proofs/Showing.antt). Assumes nothing.
+-- `lent::show_groups` meets its contract: refused, too short, shown (proofs/Showing.antt).
 use mathlib.Core.List.{List, ◌++◌}
 use mathlib.Core.Path.{◌≡◌, refl, sym, ap, ap₂, ◌∙◌}
 use Prim.Native.Nat.{ℕ, ◌-◌, ◌*◌, ◌≤◌}
@@ -14,8 +14,8 @@ use Rattle.group_names.specs.declared.Group.{Group}
 use Rattle.lent.specs.Shown.{names_length, flat, group_numbers}
 use Rattle.lent.proofs.Copying.{flat_length, sets_behind}
 use Rattle.lent.proofs.Showing.{lends_refusal, lends_short, lends_shown}
-use Rattle.lent.proofs.show_groups.Statement.{statement}
-use Rattle.lent.proofs.show_groups.Tie as tie
+use Rattle.lent.proofs.show_groups.Goals as goal
+use Rattle.lent.proofs.show_groups.Goals.{In-Accepted}
 
 -- of the first n of the places, the numbers, and then zeros
 module _ (gs : List Group) (n : ℕ) where
@@ -37,42 +37,20 @@ module _ (gs : List Group) (n : ℕ) (long : length gs ≡ limit) (few : n ≤ l
       ∙ sets_behind out (numbers gs n) (replicate (names_length - 4 * n) 0) 0 (4 * n) numbers_long
       ∙ ap (sets out 0) (sym (padded_rest 0 names_length (numbers gs n) (omega (arith, numbers_long)) ∙ ap (λ k. numbers gs n ++ replicate (names_length - k) 0) numbers_long))
 
-long : (c : tie.After-enum-told) → length c.before.before.before.args.g.at ≡ limit
+long : (c : In-Accepted) → length c.args.g.at ≡ limit
 long c = search (rules, length_of_image)
 
-returns : tie.Need-returns
-returns c =
-    let t = c.before.before.before in
-    let g = t.before.before.before.args.g in
-    lends_short _ _ _ _ _ _ _ t.enum_told.given.1 (omega (arith, shown_long g.at g.count, c.before.before.if1.true)) refl c.refuse.ensures
+pub returns-then-out-lt-NAMES : goal.returns-then-out-lt-NAMES
+returns-then-out-lt-NAMES c =
+    let g = c.args.g in
+    lends_short _ _ _ _ _ _ _ c.in-Accepted.is (omega (arith, shown_long g.at g.count, c.if-out-lt-NAMES.true)) refl c.refuse.ensures
 
-returns-2 : tie.Need-returns-2
+pub returns-else-out-lt-NAMES : goal.returns-else-out-lt-NAMES
 unfolding padded
-returns-2 c =
-    let z = c.before.before.before.before in
-    let p = z.before.before.before.before.before in
-    let i = p.before.before.before in
-    let s = i.before.before.before.before in
-    let g = s.args.g in
-    lends_shown _ _ _ _ _ _ _ i.before.enum_told.given.1 (omega (arith, shown_long g.at g.count, i.if1.false))
-    (then-zeros g.at g.count (long i.before) s.requires _ _ _ p.put-groups.ensures z.put-zeros.ensures) c.tell.ensures
+returns-else-out-lt-NAMES c =
+    let g = c.args.g in
+    lends_shown _ _ _ _ _ _ _ c.in-Accepted.is (omega (arith, shown_long g.at g.count, c.if-out-lt-NAMES.false))
+    (then-zeros g.at g.count (long (goal.at.returns-else-out-lt-NAMES c).In-Accepted) c.requires _ _ _ c.put_groups.ensures c.put_zeros.ensures) c.tell.ensures
 
-returns-3 : tie.Need-returns-3
-returns-3 c = lends_refusal _ _ _ _ _ _ _ _ c.before.before.before.a.given.1 refl c.refuse2.ensures
-
-pub show-groups-spec : {M : Type 1} → statement M
-show-groups-spec =
-    tie.close
-    (tie.spec
-    (λ c. search rules)
-    (λ c κs. search rules)
-    returns
-    (λ c κs. search rules)
-    (λ c. search rules)
-    (λ c κs. search rules)
-    (λ c κs. search rules)
-    (λ c. search rules)
-    (λ c κs. search rules)
-    (λ c. search rules)
-    returns-2
-    returns-3)
+pub returns-in-Refused : goal.returns-in-Refused
+returns-in-Refused c = lends_refusal _ _ _ _ _ _ _ _ c.in-Refused.is refl c.refuse-in-Refused.ensures
