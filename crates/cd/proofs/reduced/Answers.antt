@@ -3,7 +3,6 @@
 use mathlib.Core.Path.{◌≡◌, sym, ap, ◌∙◌}
 use Prim.Native.Nat.{◌%◌}
 use native.Mathlib.Omega.{arith}
-use borrow.Author.Rules.{rules}
 use Rattle.filing.specs.Fractions.{gcd as the_gcd, lowest}
 use Rattle.filing.proofs.Gcd.{gcd_one, gcd_pos, gcd_positive, lowest_divided, lowest_coprime}
 use Rattle.cd.specs.Edges.{fraction, edge_of, reduced}

@@ -4,7 +4,6 @@ use mathlib.Core.Bool.{true, false}
 use mathlib.Core.List.{List}
 use mathlib.Core.Path.{◌≡◌, sym, ap, ◌∙◌}
 use lib.ListN.{length, get_or, drop, drop_of_length-le}
-use borrow.Author.Rules.{rules}
 use Rattle.scan.specs.Bytes.{is_digit}
 use Rattle.scan.specs.Spaces.{skip}
 use Rattle.scan.specs.Edges.{empty, run, optional, edge_at}
