@@ -2,7 +2,7 @@
 -- the value of node i. The steps are those of generator/specs/TrueDistances.antt, which the calls take in doubles; here they are taken in any field, such as the real
 -- numbers, of which the laws below are all that is used. A column has zeros past its diagonal. Assumes nothing.
 use mathlib.Core.Logic.{◌≢◌}
-use mathlib.Core.Path.{◌≡◌, refl, sym, ap, ap₂, ◌∙◌}
+use mathlib.Core.Path.{◌≡◌, refl, ap, ap₂, ◌∙◌}
 use Prim.Native.Nat.{ℕ, zero, suc, ◌<◌, ◌≤◌}
 use native.Mathlib.Decide.{dec_lt}
 use native.Mathlib.Nat.{not-suc-le-zero}

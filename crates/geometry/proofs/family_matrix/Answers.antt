@@ -2,7 +2,6 @@
 use borrow.Author.Tests.{not-true, not-false}
 use mathlib.Core.Path.{sym, ◌∙◌}
 use Rattle.geometry.proofs.Shapes.{family_shown, family_refused}
-use borrow.Author.Rules.{rules}
 use Rattle.geometry.proofs.family_matrix.Goals as goal
 
 pub returns-then-not-is_family : goal.returns-then-not-is_family

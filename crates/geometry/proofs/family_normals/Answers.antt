@@ -3,7 +3,6 @@ use borrow.Author.Tests.{not-true, not-false}
 use mathlib.Core.Path.{sym, ◌∙◌}
 use Rattle.cox.specs.Families.{family_matrix}
 use Rattle.geometry.proofs.Shapes.{family_few, family_at, family_normals_shown, family_normals_refused}
-use borrow.Author.Rules.{rules}
 use Rattle.geometry.proofs.family_normals.Goals as goal
 
 pub returns-then-not-is_family : goal.returns-then-not-is_family

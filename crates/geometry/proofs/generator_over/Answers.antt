@@ -10,7 +10,6 @@ use Rattle.cox.specs.Matrix.{matrix}
 use Rattle.normals.specs.Mirrors.{mirrors}
 use Rattle.normals.specs.Shown.{mirrors_of}
 use Rattle.geometry.proofs.Shapes.{fits, crowded, matrix_at, matrix_count, generator_shown, generator_crowded, generator_refused}
-use borrow.Author.Rules.{rules}
 use Rattle.geometry.proofs.generator_over.Goals as goal
 use Rattle.geometry.proofs.generator_over.Goals.{After-matrix-cox, After-normals-m, In-Accepted}
 

@@ -4,7 +4,6 @@ use Rattle.parse.specs.Reading.{read}
 use Rattle.lexicon.proofs.Answers.{Accepts, accepts, refuses}
 use Rattle.cox.specs.Shown.{cox_of}
 use Rattle.geometry.proofs.Shapes.{matrix_shown, square_refused}
-use borrow.Author.Rules.{rules}
 use Rattle.geometry.proofs.matrix.Goals as goal
 use Rattle.geometry.proofs.matrix.Goals.{After-matrix-cox, In-Accepted}
 

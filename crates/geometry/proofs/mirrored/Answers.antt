@@ -1,6 +1,5 @@
 -- `geometry::mirrored` meets its contract: the columns, or the column that is refused.
 use Rattle.geometry.proofs.Shapes.{fits, crowded, columns_shown, crowded_shown}
-use borrow.Author.Rules.{rules}
 use Rattle.geometry.proofs.mirrored.Goals as goal
 
 pub returns-in-Spherical : goal.returns-in-Spherical

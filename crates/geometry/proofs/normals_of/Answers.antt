@@ -8,7 +8,6 @@ use Rattle.cd.specs.Diagrams.{limit}
 use Rattle.parse.proofs.Outcomes.{accepted_few}
 use Rattle.cox.specs.Matrix.{matrix}
 use Rattle.geometry.proofs.Shapes.{matrix_at, matrix_count, normals_shown, normals_refused}
-use borrow.Author.Rules.{rules}
 use Rattle.geometry.proofs.normals_of.Goals as goal
 use Rattle.geometry.proofs.normals_of.Goals.{After-matrix-cox, In-Accepted}
 

@@ -11,7 +11,6 @@ use Rattle.cox.specs.Matrix.{matrix}
 use Rattle.normals.specs.Mirrors.{mirrors}
 use Rattle.normals.specs.Shown.{mirrors_of}
 use Rattle.geometry.proofs.Shapes.{fits, crowded, matrix_at, matrix_count, reflections_shown, reflections_crowded, reflections_refused}
-use borrow.Author.Rules.{rules}
 use Rattle.geometry.proofs.reflections.Goals as goal
 use Rattle.geometry.proofs.reflections.Goals.{After-matrix-cox, After-normals-m, In-Accepted}
 

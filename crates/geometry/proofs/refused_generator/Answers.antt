@@ -8,7 +8,6 @@ use Rattle.float.specs.Numbers.{whole}
 use Rattle.generator.specs.Generator.{solve}
 use Rattle.generator.specs.TrueDistances.{coordinates}
 use Rattle.geometry.proofs.Shapes.{generator_none}
-use borrow.Author.Rules.{rules}
 use Rattle.geometry.proofs.refused_generator.Goals as goal
 
 nine_zeros : replicate limit (of_bits binary64 0) ≡ flat limit (λ i. nil)

@@ -8,7 +8,6 @@ use Rattle.cox.specs.Squares.{zeros, flat_square}
 use Rattle.parse.specs.declared.Answer.TheVariants as said
 use Rattle.geometry.specs.declared.Square.{Square}
 use Rattle.geometry.specs.Squares.{refused_square}
-use borrow.Author.Rules.{rules}
 use Rattle.geometry.proofs.refused_square.Goals as goal
 
 zeros_held : {e : CdError} {at : List Float} → at ≡ flat_square limit zeros → ◌≡◌ {A = Square} (record { answer = said.Refused e; at = at; count = 0 }) (refused_square e)

@@ -5,7 +5,6 @@ use Rattle.generator.specs.Generator.{values}
 use Rattle.generator.specs.Shown.{generator_of}
 use Rattle.generator.specs.TrueDistances.{coordinates}
 use Rattle.geometry.proofs.Shapes.{generator_infinite, generator_solved}
-use borrow.Author.Rules.{rules}
 use Rattle.geometry.proofs.solved.Goals as goal
 
 pub returns-then-k-n : goal.returns-then-k-n

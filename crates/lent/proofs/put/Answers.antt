@@ -1,8 +1,7 @@
 -- `lent::put` meets its contract. The invariant: the doubles passed are stored.
-use mathlib.Core.Path.{◌≡◌, refl, ap, ◌∙◌}
-use Prim.Native.Nat.{◌≤◌, ◌-◌}
+use mathlib.Core.Path.{refl, ap, ◌∙◌}
 use borrow.Author.Rules.{rules}
-use lib.ListN.{length, take, length-set}
+use lib.ListN.{length-set}
 use lib.Seq.{sets, take_all}
 use Rattle.lent.proofs.Copying.{sets_more}
 use Rattle.lent.proofs.put.Goals as goal

@@ -1,10 +1,8 @@
 -- `lent::put` meets its contract. The invariant: the doubles passed are stored.
-use mathlib.Core.Path.{◌≡◌, refl, ap, ◌∙◌}
+use mathlib.Core.Path.{◌≡◌}
 use Prim.Native.Nat.{◌≤◌, ◌-◌}
-use borrow.Author.Rules.{rules}
-use lib.ListN.{length, take, length-set}
-use lib.Seq.{sets, take_all}
-use Rattle.lent.proofs.Copying.{sets_more}
+use lib.ListN.{length, take}
+use lib.Seq.{sets}
 use Rattle.lent.proofs.put.Given as goal
 
 abbrev pub invariant-loop-i : goal.invariant-loop-i

@@ -1,14 +1,11 @@
 -- `lent::put_matrices` meets its contract. The invariant: the matrices passed are stored.
-use mathlib.Core.Path.{◌≡◌}
-use Prim.Native.Nat.{◌≤◌, ◌<◌, ◌-◌}
+use Prim.Native.Nat.{◌<◌}
 use native.Mathlib.Omega.{arith}
 use borrow.Author.Rules.{rules}
 use lib.ListN.{length}
-use Rattle.cd.specs.Diagrams.{limit}
 use Rattle.cd.proofs.Arrays.{length_of_image}
-use Rattle.reflections.specs.declared.Matrix.{Matrix}
 use Rattle.lent.specs.Shown.{square_length}
-use Rattle.lent.proofs.Copying.{Stored, stored_none, stored_more, stored_length, stored_all}
+use Rattle.lent.proofs.Copying.{stored_none, stored_more, stored_length, stored_all}
 use Rattle.lent.proofs.put_matrices.Goals as goal
 
 pub loop-i-init : goal.loop-i-init

@@ -1,13 +1,12 @@
 -- `lent::put_nodes` meets its contract. The invariant: the nodes passed are stored.
-use mathlib.Core.Path.{◌≡◌, refl}
-use Prim.Native.Nat.{◌≤◌, ◌<◌, ◌-◌}
+use mathlib.Core.Path.{refl}
+use Prim.Native.Nat.{◌<◌}
 use native.Mathlib.Omega.{arith}
 use borrow.Author.Rules.{rules}
 use lib.ListN.{length}
-use Rattle.cd.specs.Diagrams.{limit}
 use Rattle.cd.proofs.Arrays.{length_of_image}
 use Rattle.lent.specs.Shown.{node_numbers}
-use Rattle.lent.proofs.Copying.{Stored, stored_none, stored_more, stored_length, stored_all}
+use Rattle.lent.proofs.Copying.{stored_none, stored_more, stored_length, stored_all}
 use Rattle.lent.proofs.put_nodes.Goals as goal
 
 pub loop-i-init : goal.loop-i-init

@@ -1,13 +1,13 @@
 -- `lent::put_pairs` meets its contract. The invariant: the pairs passed are stored.
-use mathlib.Core.Path.{◌≡◌, refl}
-use Prim.Native.Nat.{◌≤◌, ◌<◌, ◌-◌, ◌*◌}
+use mathlib.Core.Path.{refl}
+use Prim.Native.Nat.{◌<◌, ◌*◌}
 use native.Mathlib.Omega.{arith}
 use borrow.Author.Rules.{rules}
 use lib.ListN.{length}
-use Rattle.cd.specs.Diagrams.{limit, pair_limit}
+use Rattle.cd.specs.Diagrams.{limit}
 use Rattle.cd.proofs.Arrays.{length_of_image}
 use Rattle.lent.specs.Shown.{pair_numbers}
-use Rattle.lent.proofs.Copying.{Stored, stored_none, stored_more, stored_length, stored_all}
+use Rattle.lent.proofs.Copying.{stored_none, stored_more, stored_length, stored_all}
 use Rattle.lent.proofs.put_pairs.Goals as goal
 
 pub loop-i-init : goal.loop-i-init

@@ -1,13 +1,10 @@
 -- `lent::put_pairs` meets its contract. The invariant: the pairs passed are stored.
-use mathlib.Core.Path.{◌≡◌, refl}
-use Prim.Native.Nat.{◌≤◌, ◌<◌, ◌-◌, ◌*◌}
-use native.Mathlib.Omega.{arith}
-use borrow.Author.Rules.{rules}
+use mathlib.Core.Path.{◌≡◌}
+use Prim.Native.Nat.{◌≤◌, ◌-◌, ◌*◌}
 use lib.ListN.{length}
 use Rattle.cd.specs.Diagrams.{limit, pair_limit}
-use Rattle.cd.proofs.Arrays.{length_of_image}
 use Rattle.lent.specs.Shown.{pair_numbers}
-use Rattle.lent.proofs.Copying.{Stored, stored_none, stored_more, stored_length, stored_all}
+use Rattle.lent.proofs.Copying.{Stored}
 use Rattle.lent.proofs.put_pairs.Given as goal
 
 abbrev pub invariant-loop-i : goal.invariant-loop-i

@@ -1,9 +1,9 @@
 -- `lent::put_zeros` meets its contract. The invariant: with zeros from i on the slice is what it is to be.
 use mathlib.Core.Path.{◌≡◌, refl, sym, ap, ◌∙◌}
-use Prim.Native.Nat.{◌≤◌, ◌-◌}
+use Prim.Native.Nat.{◌-◌}
 use native.Mathlib.Omega.{arith}
 use borrow.Author.Rules.{rules}
-use lib.ListN.{length, replicate, length-set}
+use lib.ListN.{replicate, length-set}
 use lib.Seq.{sets}
 use Rattle.lent.specs.Shown.{names_length}
 use Rattle.lent.proofs.Copying.{sets_equal}

@@ -1,12 +1,9 @@
 -- `lent::put_zeros` meets its contract. The invariant: with zeros from i on the slice is what it is to be.
-use mathlib.Core.Path.{◌≡◌, refl, sym, ap, ◌∙◌}
+use mathlib.Core.Path.{◌≡◌}
 use Prim.Native.Nat.{◌≤◌, ◌-◌}
-use native.Mathlib.Omega.{arith}
-use borrow.Author.Rules.{rules}
-use lib.ListN.{length, replicate, length-set}
+use lib.ListN.{length, replicate}
 use lib.Seq.{sets}
 use Rattle.lent.specs.Shown.{names_length}
-use Rattle.lent.proofs.Copying.{sets_equal}
 use Rattle.lent.proofs.put_zeros.Given as goal
 
 abbrev pub invariant-loop-i : goal.invariant-loop-i

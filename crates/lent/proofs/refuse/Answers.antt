@@ -1,6 +1,5 @@
 -- `lent::refuse` meets its contract.
 use mathlib.Core.Path.{◌∙◌}
-use borrow.Author.Rules.{rules}
 use Rattle.lent.proofs.refuse.Goals as goal
 
 pub returns : goal.returns

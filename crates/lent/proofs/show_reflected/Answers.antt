@@ -2,7 +2,6 @@
 use mathlib.Core.Path.{◌≡◌, refl}
 use native.Mathlib.Omega.{arith}
 use lib.ListN.{length}
-use borrow.Author.Rules.{rules}
 use Rattle.cd.specs.Arrays.{padded}
 use Rattle.lent.specs.Shown.{reflections_length, entries}
 use Rattle.lent.proofs.Showing.{lends_refusal, lends_short, lends_shown}

@@ -1,5 +1,4 @@
 -- `lexicon_c::lexicon_matrix` meets its contract.
-use borrow.Author.Rules.{rules}
 use Rattle.lent.specs.Shown.{of_square}
 use Rattle.lent.proofs.Showing.{lends_same}
 use Rattle.lexicon_c.proofs.lexicon_matrix.Goals as goal

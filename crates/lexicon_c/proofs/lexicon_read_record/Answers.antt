@@ -1,7 +1,6 @@
 -- `lexicon_c::lexicon_read_record` meets its contract: the values that are read back are no nan (proofs/Valued.antt).
 use mathlib.Core.List.{[], ◌∷◌}
 use mathlib.Core.Path.{refl}
-use borrow.Author.Rules.{rules}
 use Rattle.cd.specs.Arrays.{padded}
 use Rattle.lexicon_c.proofs.Valued.{record_valued}
 use Rattle.lexicon_c.proofs.lexicon_read_record.Goals as goal

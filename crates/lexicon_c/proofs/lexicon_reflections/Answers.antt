@@ -1,7 +1,6 @@
 -- `lexicon_c::lexicon_reflections` meets its contract: how many entries reflections have (proofs/Entries.antt).
 use mathlib.Core.Path.{ap, ◌∙◌}
 use lib.ListN.{length}
-use borrow.Author.Rules.{rules}
 use Rattle.lent.specs.Shown.{entries, of_reflected}
 use Rattle.lexicon_c.proofs.Entries.{reflections_long}
 use Rattle.lent.proofs.Showing.{lends_same}

@@ -1,5 +1,4 @@
 -- `lexicon_c::lexicon_shelf_check` meets its contract.
-use borrow.Author.Rules.{rules}
 use Rattle.cd.specs.Arrays.{padded}
 use Rattle.lexicon_c.proofs.Telling.{tells_answer, tells_refusal}
 use Rattle.lexicon_c.proofs.lexicon_shelf_check.Goals as goal

@@ -1,6 +1,5 @@
 -- `lexicon_c::lexicon_write_record` meets its contract.
 use mathlib.Core.Path.{refl}
-use borrow.Author.Rules.{rules}
 use Rattle.cd.specs.Arrays.{padded}
 use Rattle.lexicon_c.specs.Calls.{replaced}
 use Rattle.lexicon_c.proofs.Telling.{tells_answer, tells_refusal}

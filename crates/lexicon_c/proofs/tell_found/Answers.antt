@@ -2,7 +2,6 @@
 use mathlib.Core.List.{[], ◌∷◌}
 use mathlib.Core.Path.{ap, ◌∙◌}
 use Prim.Native.Nat.{ℕ}
-use borrow.Author.Rules.{rules}
 use Rattle.cd.specs.Arrays.{padded}
 use Rattle.lexicon_c.proofs.Telling.{flag, tells_answer, tells_refusal}
 use Rattle.lexicon_c.proofs.tell_found.Goals as goal

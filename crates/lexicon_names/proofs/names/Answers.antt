@@ -1,5 +1,4 @@
 -- `lexicon_names::names` meets its contract: the diagram of an accepted text can be filed, and `group_search` tells its components.
-use borrow.Author.Rules.{rules}
 use Rattle.lexicon.proofs.Answers.{read_few, accepts, refuses}
 use Rattle.lexicon.proofs.Fileable.{accepted_kept}
 use Rattle.lexicon_names.specs.NamesText.{refused, told}

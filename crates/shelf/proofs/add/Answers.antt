@@ -1,7 +1,6 @@
 -- `shelf::add` meets its contract.
 use mathlib.Core.Path.{refl, sym, subst}
 use native.Mathlib.Omega.{arith}
-use borrow.Author.Rules.{rules}
 use borrow.Author.Tests.{not-true, not-false}
 use Rattle.cd.proofs.Decided.{refutes}
 use Rattle.shelf.specs.Adds.{Adds, refused}

@@ -1,6 +1,5 @@
 -- `shelf::bisect` meets its contract: the record is read, then the file's length tested, then the record looked up.
 use native.Mathlib.Omega.{arith}
-use borrow.Author.Rules.{rules}
 use Rattle.shelf.specs.Bisects.{unread, no_multiple}
 use Rattle.shelf.proofs.Tested.{accepted_read, refused_read}
 use Rattle.shelf.proofs.bisect.Goals as goal

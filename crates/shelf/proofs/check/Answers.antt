@@ -1,6 +1,6 @@
 -- `shelf::check` meets its contract. The invariant: the places passed are right.
 use mathlib.Core.Path.{◌≡◌, refl}
-use Prim.Native.Nat.{◌*◌, ◌/◌, ◌-◌, ◌≤◌}
+use Prim.Native.Nat.{◌*◌, ◌/◌}
 use native.Mathlib.Nat.{not-suc-le-zero}
 use native.Mathlib.Numerals.{add-one}
 use native.Mathlib.Omega.{arith}
@@ -12,7 +12,6 @@ use Rattle.cd.proofs.Decided.{refutes}
 use Rattle.filing.specs.Records.{record_length}
 use Rattle.filing.proofs.Bytes.{one_more}
 use Rattle.shelf.specs.Checks.{wrong, right, no_multiple, first_wrong}
-use Rattle.shelf.specs.Shelves.{RightTo}
 use Rattle.shelf.proofs.check.Goals as goal
 
 pub returns-then-file-ne0 : goal.returns-then-file-ne0

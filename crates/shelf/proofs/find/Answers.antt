@@ -1,5 +1,4 @@
 -- `shelf::find` meets its contract: what bisection finds, once the file is checked.
-use borrow.Author.Rules.{rules}
 use Rattle.shelf.specs.Finds.{refused, unsound}
 use Rattle.shelf.proofs.Bisected.{bisects_finds}
 use Rattle.shelf.proofs.Outcomes.{bisected_readable, bisected_refused, checked_right, checked_wrong}

@@ -2,7 +2,6 @@
 use mathlib.Core.Path.{sym}
 use native.Mathlib.Omega.{arith}
 use lib.Seq.{length-take-le}
-use borrow.Author.Rules.{rules}
 use Rattle.shelf.proofs.Putting.{parts_inserted}
 use Rattle.shelf.proofs.insert.Goals as goal
 

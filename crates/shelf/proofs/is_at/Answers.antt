@@ -1,6 +1,5 @@
 -- `shelf::is_at` meets its contract.
 use native.Mathlib.Omega.{arith}
-use borrow.Author.Rules.{rules}
 use Rattle.cd.specs.Diagrams.{limit}
 use Rattle.cd.proofs.Decided.{decides_no}
 use Rattle.shelf.proofs.Tested.{present_decided}

@@ -1,5 +1,4 @@
 -- `shelf::is_readable` meets its contract: reading decides it.
-use borrow.Author.Rules.{rules}
 use Rattle.cd.proofs.Decided.{decides_yes, decides_no}
 use Rattle.shelf.proofs.Tested.{accepted_read, refused_read, refused_unreadable}
 use Rattle.shelf.proofs.is_readable.Goals as goal

@@ -1,5 +1,4 @@
 -- `shelf::is_right` meets its contract: the two tests are the definition's.
-use borrow.Author.Rules.{rules}
 use borrow.Author.Tests.{not-true, not-false}
 use Rattle.cd.specs.Diagrams.{limit}
 use Rattle.cd.proofs.Decided.{decides_no, refutes}

@@ -1,5 +1,4 @@
 -- `shelf::look_up` meets its contract.
-use borrow.Author.Rules.{rules}
 use Rattle.shelf.proofs.Outcomes.{looked_up}
 use Rattle.shelf.proofs.look_up.Goals as goal
 

@@ -1,10 +1,7 @@
 -- `shelf::place_for` meets its contract. The invariant: where bisection between `low` and `high` ends, bisection among all places ends.
-use Prim.Native.Nat.{ℕ, ◌-◌, ◌≤◌}
 use native.Mathlib.Omega.{arith}
-use borrow.Author.Rules.{rules}
-use Rattle.cd.specs.Diagrams.{limit}
 use Rattle.cd.proofs.Decided.{refutes}
-use Rattle.shelf.specs.Bisects.{Bisection, none_left}
+use Rattle.shelf.specs.Bisects.{none_left}
 use Rattle.shelf.proofs.Tested.{step_in_front, step_behind}
 use Rattle.shelf.proofs.place_for.Goals as goal
 

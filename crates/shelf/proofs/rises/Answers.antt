@@ -1,5 +1,4 @@
 -- `shelf::rises` meets its contract.
-use borrow.Author.Rules.{rules}
 use Rattle.cd.specs.Diagrams.{limit}
 use Rattle.shelf.proofs.Tested.{greater_decided}
 use Rattle.shelf.proofs.rises.Goals as goal

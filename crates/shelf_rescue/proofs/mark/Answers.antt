@@ -1,6 +1,5 @@
 -- `shelf_rescue::mark` meets its contract: the cases of the definition.
 use native.Mathlib.Omega.{arith}
-use borrow.Author.Rules.{rules}
 use Rattle.shelf.proofs.Tested.{accepted_read, refused_read}
 use Rattle.shelf_rescue.proofs.Marks.{numbered, first_number, mark_read, mark_unread}
 use Rattle.shelf_rescue.proofs.mark.Goals as goal

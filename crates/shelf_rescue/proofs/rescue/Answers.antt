@@ -2,14 +2,14 @@
 use mathlib.Core.List.{List}
 use mathlib.Core.Logic.{inl, inr}
 use mathlib.Core.Path.{◌≡◌, refl, ◌∙◌, subst}
-use Prim.Native.Nat.{ℕ, ◌/◌, ◌%◌, ◌-◌, ◌≤◌}
+use Prim.Native.Nat.{ℕ, ◌/◌, ◌%◌}
 use native.Mathlib.Omega.{arith}
 use lib.ListN.{length, length-set}
 use borrow.Author.Rules.{rules}
 use Rattle.cd.specs.Diagrams.{limit}
 use Rattle.filing.specs.Records.{record_length}
 use Rattle.shelf_rescue.specs.Rescues.{Cut, short}
-use Rattle.shelf_rescue.proofs.Saving.{Saved, saved_none, saved_copied, saved_passed, saved_all}
+use Rattle.shelf_rescue.proofs.Saving.{saved_none, saved_copied, saved_passed, saved_all}
 use Rattle.shelf_rescue.proofs.rescue.Goals as goal
 
 cut : (l : List ℕ) → Cut limit l (length l / record_length limit) (length l % record_length limit)

@@ -1,15 +1,9 @@
 -- `shelf_rescue::rescue` meets its contract. The invariant: what is saved of the places passed stands in the buffers.
-use mathlib.Core.List.{List}
-use mathlib.Core.Logic.{inl, inr}
-use mathlib.Core.Path.{◌≡◌, refl, ◌∙◌, subst}
-use Prim.Native.Nat.{ℕ, ◌/◌, ◌%◌, ◌-◌, ◌≤◌}
-use native.Mathlib.Omega.{arith}
-use lib.ListN.{length, length-set}
-use borrow.Author.Rules.{rules}
+use mathlib.Core.Path.{◌≡◌}
+use Prim.Native.Nat.{◌-◌, ◌≤◌}
+use lib.ListN.{length}
 use Rattle.cd.specs.Diagrams.{limit}
-use Rattle.filing.specs.Records.{record_length}
-use Rattle.shelf_rescue.specs.Rescues.{Cut, short}
-use Rattle.shelf_rescue.proofs.Saving.{Saved, saved_none, saved_copied, saved_passed, saved_all}
+use Rattle.shelf_rescue.proofs.Saving.{Saved}
 use Rattle.shelf_rescue.proofs.rescue.Given as goal
 
 abbrev pub invariant-loop-i : goal.invariant-loop-i
