@@ -1,3 +1,2 @@
 -- The tests before reading, and what the walks share.
 mod ReadLaws
-mod Walk

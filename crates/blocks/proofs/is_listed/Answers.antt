@@ -1,0 +1,11 @@
+-- `blocks::is_listed` meets its contract: where the loop returns, the number stands. The measure is what is left of m.
+use mathlib.Core.Bool.{false≢true}
+use native.Mathlib.Omega.{arith}
+use Prim.Native.Nat.{◌-◌, ◌≤◌}
+use Rattle.blocks.proofs.is_listed.Goals as goal
+
+pub returns-then-list-i : goal.returns-then-list-i
+returns-then-list-i c h = (c.loop-i.i, c.loop-i-test.true, c.if-list-i.true)
+
+pub returns : goal.returns
+returns c h = absurd (false≢true h)

@@ -1,0 +1,17 @@
+-- `generator::lose` meets its contract. The invariant: the first r coordinates have lost; the measure is what is left of i.
+use mathlib.Core.Path.{◌≡◌, ap, ◌∙◌}
+use Prim.Native.Nat.{ℕ, ◌-◌, ◌≤◌}
+use native.Mathlib.Omega.{arith}
+use lib.Ieee.{Float, nan}
+use Rattle.cd.specs.Diagrams.{limit}
+use Rattle.cox.specs.Squares.{Square, flat, flat_square}
+use Rattle.cox.proofs.Sums.{entry_read}
+use Rattle.generator.specs.Shown.{lost}
+use Rattle.generator.proofs.Rows.{lost_none, lost_more}
+use Rattle.generator.proofs.lose.Given as goal
+
+abbrev pub invariant-loop-r : goal.invariant-loop-r
+invariant-loop-r l = (l.r ≤ l.i) × ((f : Square) (c : ℕ → Float) → l.m ≡ flat_square limit f → l.initial.out ≡ flat limit c → l.out ≡ flat limit (lost f l.i l.v c l.r))
+
+abbrev pub decreases-loop-r : goal.decreases-loop-r
+decreases-loop-r l = l.i - l.r

@@ -1,0 +1,27 @@
+-- `generator::place` meets its contract. The invariant: the first i coordinates are placed; the measure is what is left of n.
+use mathlib.Core.Path.{◌≡◌, ap, ◌∙◌}
+use Prim.Native.Nat.{ℕ, ◌-◌, ◌≤◌}
+use native.Mathlib.Omega.{arith}
+use lib.Ieee.{Float, nan}
+use Rattle.cd.specs.Diagrams.{limit}
+use Rattle.cox.specs.Squares.{Square, flat, flat_square}
+use Rattle.cox.proofs.Sums.{entry_read}
+use Rattle.generator.specs.TrueDistances.{placeᶠ}
+use Rattle.generator.proofs.Rows.{place_none, place_more}
+use Rattle.generator.proofs.place.Goals as goal
+
+pub loop-i-init : goal.loop-i-init
+loop-i-init c = (omega arith, λ f b e w. w ∙ ap (flat limit) (place_none f b))
+
+pub loop-i-preserved : goal.loop-i-preserved
+loop-i-preserved c =
+    let i = c.loop-i.i in (
+      omega arith,
+      λ f b e w.
+          let held = c.loop-i.invariant.1 f b e w in
+          place_more f i b _ _ limit _ (omega arith) held (c.rest.ensures f (placeᶠ f i b) e held)
+          (entry_read limit f _ nan e i i (omega arith) (omega arith)),
+    )
+
+pub returns : goal.returns
+returns c f b e w = c.loop-i.invariant.1 f b e w ∙ ap (λ k. flat limit (placeᶠ f k b)) (omega arith)

@@ -1,0 +1,18 @@
+-- `generator::solve` meets its contract. The invariant: the rows that are left, from the present coordinates, give the whole answer; the measure is the rows left.
+use mathlib.Core.Path.{◌≡◌, refl, ap, ap₂, ◌∙◌}
+use Prim.Native.Nat.{ℕ, ◌-◌, ◌≤◌}
+use native.Mathlib.Omega.{arith}
+use lib.Ieee.{Float, nan}
+use Rattle.float.specs.Numbers.{◌/ᶠ◌}
+use Rattle.cd.specs.Diagrams.{limit}
+use Rattle.cox.specs.Squares.{Square, flat, flat_square}
+use Rattle.cox.proofs.Sums.{entry_read}
+use Rattle.generator.specs.Generator.{solved, solve}
+use Rattle.generator.proofs.Rows.{row_read, solved_row, solve_last, solve_done}
+use Rattle.generator.proofs.solve.Given as goal
+
+abbrev pub invariant-loop-left : goal.invariant-loop-left
+invariant-loop-left l = (l.left ≤ l.n) × ((f : Square) (c : ℕ → Float) → l.m ≡ flat_square limit f → l.initial.b ≡ flat limit c → ((x : ℕ → Float) × (l.b ≡ flat limit x) × (solve f l.left x ≡ solve f l.n c)))
+
+abbrev pub decreases-loop-left : goal.decreases-loop-left
+decreases-loop-left l = l.left

@@ -1,0 +1,15 @@
+-- `group_names::multiples` meets its contract. The invariant: r is the product of the first k multiples (Orders.antt).
+use mathlib.Core.Path.{◌≡◌, refl, sym, ap, ◌∙◌}
+use Prim.Native.Nat.{ℕ, ◌+◌, ◌-◌, ◌*◌, ◌≤◌}
+use native.Mathlib.Nat.{pow-zero, mul-le-mul}
+use native.Mathlib.Omega.{arith}
+use borrow.Author.Rules.{rules}
+use Rattle.filing.specs.Factorials.{factorial}
+use Rattle.group_names.proofs.Orders.{product, product_next, product_fits}
+use Rattle.group_names.proofs.multiples.Given as goal
+
+abbrev pub invariant-loop-k : goal.invariant-loop-k
+invariant-loop-k l = (l.r ≡ product l.of l.k) × (l.k ≤ l.n)
+
+abbrev pub decreases-loop-k : goal.decreases-loop-k
+decreases-loop-k l = l.n - l.k
