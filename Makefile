@@ -1,4 +1,4 @@
-# make test: `rt ci`, then the library's callers, the command, the program cdlist, the comparisons and the claims on what it has proved.
+# make test: the gate, .ci/run: `rt ci`, then the library's callers, the command, the program cdlist, the comparisons and the claims on what it has proved.
 # make run: the command `lexicon check` on a sample. make cli: the command, target/cli/release/lexicon. make lib: the library for C and Rust.
 # make callers: the programs in C and the Rust crate over the library. make command: the command's tests, and 100,000 texts beside the library.
 # make programs: cdlist where reading or writing fails, and with arguments. make list: cdlist on standard input, or on a sample where that is a terminal.
@@ -21,17 +21,10 @@ TEXTS = 1000000
 PAIRS = 1000000
 FILES = 100000
 
-# Here `rt ci` proves all that no run on this machine has proved before, and runs every test and program; what follows runs on what it has proved. Its output is
-# kept in target/ci.log. A must-fail edit that can't be tried fails nothing of `rt ci`, which only counts it as bad, so it fails here. The last line of
-# `rt ci`, the verdict, is said again only if all passed.
-test: | target
-	@rt ci 2>&1 | tee target/ci.log
-	@grep -q '^rt: ok;' target/ci.log || { echo "make: rt ci has not said that all is well"; exit 1; }
-	@! grep -E '^rt: ok;.*[, ][1-9][0-9]* bad' target/ci.log >/dev/null || { echo "make: a must-fail edit is bad"; exit 1; }
-	@$(MAKE) --no-print-directory -j2 -O callers command programs compare claims PAIRS=100000 AFTER_CI=--after-ci
-	@tail -n 1 target/ci.log
+test:
+	@.ci/run
 
-# Empty, or --after-ci where `rt ci` has just passed: then what it left is taken as it stands.
+# The gate says --after-ci, where `rt ci` has just passed: then what it left is taken as it stands.
 AFTER_CI =
 
 lib: libs
