@@ -5,4 +5,4 @@ use Rattle.builder.proofs.parse.Goals as goal
 
 pub returns : goal.returns
 unfolding read
-returns c = rw (← ap (λ b. b.now) c.new.ensures.0, ← c.new.ensures.1, ← c.new.ensures.2) c.build.ensures
+returns c = rw (ap (λ b. b.now) c.new.ensures.0, c.new.ensures.1, c.new.ensures.2) at c.build.ensures

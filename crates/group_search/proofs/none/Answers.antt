@@ -1,15 +1,11 @@
--- `group_search::none` meets its contract: the places of an empty list. Assumes nothing.
+-- `group_search::none` meets its contract: the places of an empty list.
 use mathlib.Core.List.{List}
 use mathlib.Core.Path.{ap}
 use borrow.Author.Rules.{rules}
 use Rattle.group_names.specs.declared.Group.{Group}
 use Rattle.group_names.specs.declared.Groups.{Groups}
 use Rattle.parse.specs.declared.Answer.TheVariants as said
-use Rattle.group_search.proofs.none.Statement.{statement}
-use Rattle.group_search.proofs.none.Tie as tie
+use Rattle.group_search.proofs.none.Goals as goal
 
-returns : tie.Need-returns
+pub returns : goal.returns
 returns c = ap {B = Groups} (λ (gs : List Group). record { answer = said.Accepted; at = gs; count = 0 }) c.blanks.ensures
-
-pub none_spec : {M : Type 1} → statement M
-none_spec = tie.close (tie.spec (λ c κs. search rules) returns)

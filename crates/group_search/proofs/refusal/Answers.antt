@@ -1,0 +1,11 @@
+-- `group_search::refusal` meets its contract: the places of an empty list.
+use mathlib.Core.List.{List}
+use mathlib.Core.Path.{ap}
+use borrow.Author.Rules.{rules}
+use Rattle.group_names.specs.declared.Group.{Group}
+use Rattle.group_names.specs.declared.Groups.{Groups}
+use Rattle.parse.specs.declared.Answer.TheVariants as said
+use Rattle.group_search.proofs.refusal.Goals as goal
+
+pub returns : goal.returns
+returns c = ap {B = Groups} (λ (gs : List Group). record { answer = said.Refused c.args.e; at = gs; count = 0 }) c.blanks.ensures

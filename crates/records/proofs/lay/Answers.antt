@@ -1,0 +1,11 @@
+-- `records::lay` meets its contract: the parts fill the zeros behind the count.
+use borrow.Author.Rules.{rules}
+use Rattle.cd.specs.Diagrams.{limit}
+use Rattle.filing.specs.Numberings.{at}
+use Rattle.records.proofs.Layouts.{layout_written}
+use Rattle.records.proofs.lay.Goals as goal
+
+pub returns : goal.returns
+returns c =
+    let a = c.args in
+    cc (layout_written limit a.n a.kinds.now a.bits.now a.pairs.now (at a.p) c.requires.0 a.out.now)

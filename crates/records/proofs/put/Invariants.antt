@@ -1,0 +1,17 @@
+-- `records::put` meets its contract. The invariant: the bytes passed are written.
+use mathlib.Core.Path.{◌≡◌, refl, sym, ap, ◌∙◌}
+use Prim.Native.Nat.{◌+◌, ◌-◌, ◌≤◌}
+use native.Mathlib.Omega.{arith}
+use lib.ListN.{get_or, set, length, take, length-set}
+use lib.Seq.{take-length}
+use borrow.Author.Rules.{rules}
+use Rattle.filing.proofs.Bytes.{written_nil}
+use Rattle.filing.specs.Bytes.{written}
+use Rattle.records.proofs.Parts.{put_more}
+use Rattle.records.proofs.put.Given as goal
+
+abbrev pub invariant-loop-i : goal.invariant-loop-i
+invariant-loop-i l = (l.i ≤ length l.from) × (length l.out ≡ length l.initial.out) × (l.out ≡ written l.at (take l.i l.from) l.initial.out)
+
+abbrev pub decreases-loop-i : goal.decreases-loop-i
+decreases-loop-i l = length l.from - l.i

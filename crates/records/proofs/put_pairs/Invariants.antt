@@ -1,0 +1,22 @@
+-- `records::put_pairs` meets its contract. The invariant: the rows passed are written, and k is where the next one goes.
+use mathlib.Core.Path.{◌≡◌, refl, sym, ◌∙◌}
+use Prim.Native.Nat.{◌+◌, ◌-◌, ◌≤◌}
+use native.Mathlib.Omega.{arith}
+use lib.ListN.{length}
+use borrow.Author.Rules.{rules}
+use Rattle.cd.specs.Diagrams.{limit}
+use Rattle.filing.specs.Bytes.{blocks, written}
+use Rattle.filing.specs.Numberings.{at}
+use Rattle.filing.specs.Records.{nodes_length}
+use Rattle.filing.proofs.Bytes.{written_nil}
+use Rattle.tables.specs.Tables.{table_pairs}
+use Rattle.records.proofs.Layouts.{pairs_more, row_fits, row_then}
+use Rattle.records.proofs.put_pairs.Given as goal
+
+abbrev pub invariant-loop-j : goal.invariant-loop-j
+invariant-loop-j l =
+    (l.j ≤ l.n) × (l.k ≡ 1 + nodes_length limit + length (table_pairs limit l.pairs (at l.p) l.j)) × (length l.out ≡ length l.initial.out)
+    × (l.out ≡ written (1 + nodes_length limit) (table_pairs limit l.pairs (at l.p) l.j) l.initial.out)
+
+abbrev pub decreases-loop-j : goal.decreases-loop-j
+decreases-loop-j l = l.n - l.j

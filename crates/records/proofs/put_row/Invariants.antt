@@ -1,0 +1,19 @@
+-- `records::put_row` meets its contract. The invariant: the pairs passed are written.
+use mathlib.Core.Path.{◌≡◌, refl, sym, ◌∙◌}
+use Prim.Native.Nat.{◌-◌, ◌≤◌}
+use native.Mathlib.Omega.{arith}
+use lib.ListN.{length}
+use borrow.Author.Rules.{rules}
+use Rattle.cd.specs.Diagrams.{limit}
+use Rattle.filing.specs.Bytes.{blocks, written}
+use Rattle.filing.specs.Numberings.{at}
+use Rattle.filing.proofs.Bytes.{written_nil}
+use Rattle.tables.specs.Tables.{table_row}
+use Rattle.records.proofs.Layouts.{pair_of, pair_then}
+use Rattle.records.proofs.put_row.Given as goal
+
+abbrev pub invariant-loop-i : goal.invariant-loop-i
+invariant-loop-i l = (l.i ≤ l.j) × (length l.out ≡ length l.initial.out) × (l.out ≡ written l.k (blocks (pair_of limit l.pairs (at l.p) l.j) l.i) l.initial.out)
+
+abbrev pub decreases-loop-i : goal.decreases-loop-i
+decreases-loop-i l = l.j - l.i
