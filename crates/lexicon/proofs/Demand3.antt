@@ -50,5 +50,5 @@ module _ (v w : Bool) (s t : List ℕ) (ns ms : List Node) (es fs : List Stored)
       → (f : ℕ → ℕ) × Carries (diagram ns es) (diagram ms fs) f × ((i : ℕ) → i < length ns → f (at x.numbering i) ≡ at y.numbering i)
   unfolding diagram
   nodes_correspond same =
-      theorem.places-correspond limit (accepted_diagram v s ns es accepted-s) (accepted_diagram w t ms fs accepted-t) (written_numbers wrote_s) (written_numbers wrote_t)
+      theorem.places_correspond limit (accepted_diagram v s ns es accepted-s) (accepted_diagram w t ms fs accepted-t) (written_numbers wrote_s) (written_numbers wrote_t)
       (sym (written_gives wrote_s) ∙ same ∙ written_gives wrote_t)

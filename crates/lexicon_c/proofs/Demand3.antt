@@ -63,7 +63,7 @@ pub one_filing : {wish : Bool} {text a a' b b' p p' q q' u v : List ℕ} {m n : 
 one_filing f g m-0 n-0 =
     let d = returned_0 f m-0 in
     let e = returned_0 g n-0 in
-    let (bytes, same) = one.one-filing d.accepted d.long e.long f.files g.files in
+    let (bytes, same) = one.one_filing d.accepted d.long e.long f.files g.files in
     (bytes, numbering_0 f d ∙ ap (λ (x : Filed). x.numbering) same ∙ sym (numbering_0 g e))
 
 -- two calls that return 0

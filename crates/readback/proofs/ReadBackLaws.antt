@@ -95,8 +95,14 @@ module _ (N : ℕ) (l : List ℕ) where
   pub accepted_iff : ReadBack N l (Accepted (nodes_in l) (edges_in N l)) ↔ Readable N l
   accepted_iff = (to, from)
     where
+      given : (x : Reading) → ReadBack N l x → x ≡ Accepted (nodes_in l) (edges_in N l) → Readable N l
+      given _ (wrong_length n) e = absurd (cc)
+      given _ (no_diagram m n) e = absurd (cc)
+      given _ (not_smallest h n) e = absurd (cc)
+      given _ (record_of w r) e = (read_back N l, w, r)
+
       to : ReadBack N l (Accepted (nodes_in l) (edges_in N l)) → Readable N l
-      to (record_of w r) = (read_back N l, w, r)
+      to b = given _ b refl
 
       from : Readable N l → ReadBack N l (Accepted (nodes_in l) (edges_in N l))
       from r = let (x, b) = read_back_some N l in subst (ReadBack N l) (readable_read r b) b

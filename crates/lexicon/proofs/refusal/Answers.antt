@@ -1,0 +1,6 @@
+-- `lexicon::refusal` meets its contract.
+use borrow.Author.Rules.{rules}
+use Rattle.lexicon.proofs.refusal.Goals as goal
+
+pub returns : goal.returns
+returns c = rw c.plain-plain.ensures

@@ -1,0 +1,25 @@
+-- `readback::read_edges` meets its contract. The invariant: the edges of the first j places are stored; the measure is what is left of n.
+use mathlib.Core.Path.{◌≡◌}
+use Prim.Native.Nat.{◌-◌, ◌≤◌}
+use native.Mathlib.Omega.{arith}
+use borrow.Author.Rules.{rules}
+use Rattle.cd.specs.Diagrams.{limit}
+use Rattle.readback.specs.Spelled.{edges_to}
+use Rattle.readback.specs.Steps.{Shows}
+use Rattle.readback.proofs.StoredEdges.{none_read}
+use Rattle.readback.proofs.read_edges.Goals as goal
+
+pub loop-j-init : goal.loop-j-init
+loop-j-init c = (search rules, none_read _ _)
+
+pub read_row-next-requires : goal.read_row-next-requires
+read_row-next-requires c = (search rules, search rules, c.loop-j.invariant.1)
+
+pub loop-j-preserved : goal.loop-j-preserved
+loop-j-preserved c = (search rules, c.read_row-next.ensures)
+
+pub returns : goal.returns
+returns c =
+    let l = c.loop-j in
+    let end : l.j ≡ c.args.n = omega arith in
+    rw end at l.invariant.1
