@@ -39,7 +39,7 @@ def read(path):
 
 
 def is_camel(name):
-    return re.match(r"[a-z][A-Za-z0-9]*[A-Z]", name) is not None
+    return re.match(r"[a-z][\w']*[a-z0-9][A-Z]", name) is not None
 
 
 def is_dashed(name):

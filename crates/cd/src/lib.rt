@@ -4,8 +4,8 @@
 ghost use Rattle.std.specs.Prelude.{[], ◌∷◌, ◌≡◌, ◌<◌, ◌≤◌, take};
 ghost use Rattle.cd.specs.Arrays.{padded};
 ghost use Rattle.cd.specs.Letters.{letter_of};
-ghost use Rattle.filing.specs.Fractions.{gcd as the-gcd};
-ghost use Rattle.cd.specs.Edges.{is_edge, is_two, reduced as the-reduced};
+ghost use Rattle.filing.specs.Fractions.{gcd as the_gcd};
+ghost use Rattle.cd.specs.Edges.{is_edge, is_two, reduced as the_reduced};
 ghost use Rattle.cd.specs.References.{index_of, ends_of};
 ghost use Rattle.cd.specs.Refusals.{number_of};
 ghost use Rattle.cd.specs.Diagrams.{limit, pair_limit, place_of};
@@ -216,7 +216,7 @@ pub fn eq_two(e: Edge) -> bool
 
 // The greatest common divisor, by Euclid's algorithm, which a remainder of 1 ends too.
 fn gcd(a: u32, b: u32) -> u32
-    ensures { result ≡ the-gcd a b }
+    ensures { result ≡ the_gcd a b }
 {
     let mut x = a;
     let mut y = b;
@@ -231,7 +231,7 @@ fn gcd(a: u32, b: u32) -> u32
 // The edge in lowest terms. (Most edges are whole numbers, and most fractions have a remainder of 0 or 1: no loop for these.)
 pub fn reduced(e: Edge) -> Edge
     requires { 0 < e.den }
-    ensures { result ≡ the-reduced e }
+    ensures { result ≡ the_reduced e }
 {
     let rest = e.num % e.den;
     if 1 < rest {

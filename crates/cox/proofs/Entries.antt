@@ -10,7 +10,7 @@ use lib.Dec.{eqb}
 use lib.Ieee.{Float, nan}
 use lib.ListN.{get_or}
 use Rattle.float.specs.Pick.{pick}
-use Rattle.cd.specs.Diagrams.{Stored, joins, between as pair-between, limit, place_of, cd_of}
+use Rattle.cd.specs.Diagrams.{Stored, joins, between as pair_between, limit, place_of, cd_of}
 use Rattle.cd.specs.Arrays.{triangle}
 use Rattle.cd.specs.declared.Cd.{Cd}
 use Rattle.cd.specs.declared.Edge.{Edge}
@@ -28,17 +28,17 @@ unfolding pair_value
 value_picked true k e q x l h = rw (ne_eqb k 0 (omega arith))
 value_picked false k e q x l h = h
 
-pub value_between : (k : ℕ) (es : List Stored) (i j : ℕ) → 0 < k → pair_value (pair-between k es i j) ≡ between es i j
-unfolding pair-between between pair_value
+pub value_between : (k : ℕ) (es : List Stored) (i j : ℕ) → 0 < k → pair_value (pair_between k es i j) ≡ between es i j
+unfolding pair_between between pair_value
 value_between k [] i j l = refl
 value_between k (s ∷ es) i j l =
-    value_picked (joins i j s) k s.edge (pair-between (k + 1) es i j) (between es i j) l (value_between (k + 1) es i j (omega arith))
+    value_picked (joins i j s) k s.edge (pair_between (k + 1) es i j) (between es i j) l (value_between (k + 1) es i j (omega arith))
 
 pub entries_held : (cd : Cd) (ns : List Node) (es : List Stored) → cd ≡ cd_of ns es → (i j : ℕ) → i < limit → j < limit → entries (map pair_value cd.pairs) i j ≡ matrix es i j
 unfolding entries matrix
 entries_held cd ns es held i j h l =
-    let value : ℕ → ℕ → Float = λ x y. pair_value (pair-between 1 es x y) in
-    let told : map pair_value cd.pairs ≡ triangle value limit = ap (map pair_value) (pairs_held cd ns es held) ∙ map_triangle pair_value (pair-between 1 es) limit in
+    let value : ℕ → ℕ → Float = λ x y. pair_value (pair_between 1 es x y) in
+    let told : map pair_value cd.pairs ≡ triangle value limit = ap (map pair_value) (pairs_held cd ns es held) ∙ map_triangle pair_value (pair_between 1 es) limit in
     ap (pick (eqb i j) one)
     (ap (λ vs. get_or vs (place_of i j) nan) told
     ∙ get_or_triangle value nan limit i j (λ x y. ap pair_value (between_symmetric 1 es x y)) h l

@@ -1,7 +1,7 @@
 // The matrices of the families A, B, D, E and H.
 ghost use Rattle.std.specs.Prelude.{◌≡◌, ◌<◌};
 ghost use Rattle.cd.specs.Diagrams.{limit};
-ghost use Rattle.cox.specs.Families.{is_entry, chain as the-chain, family as the_family, is_family};
+ghost use Rattle.cox.specs.Families.{is_entry, chain as the_chain, family as the_family, is_family};
 ghost use Rattle.cox.specs.Shown.{family_of};
 ghost use Rattle.float.specs.Pick.{pick};
 
@@ -43,7 +43,7 @@ fn is_entry(a: usize, b: usize, i: usize, j: usize) -> bool
 // A chain of 3s.
 pub fn chain(i: usize, j: usize) -> u32
     requires { (i < limit) × (j < limit) }
-    ensures { result ≡ the-chain i j }
+    ensures { result ≡ the_chain i j }
 {
     if i == j {
         return 1;

@@ -5,7 +5,7 @@ ghost use Rattle.std.specs.Prelude.{List, map, ◌≡◌, ◌<◌, ◌≤◌};
 ghost use Rattle.cd.specs.Diagrams.{Stored, limit, cd_of};
 ghost use Rattle.cd.specs.declared.Node.{Node};
 ghost use Rattle.cox.specs.Shown.{pair_value, entries, put_column, cox_of};
-ghost use Rattle.cox.specs.Squares.{Square, zeros as the-zeros, flat_square, dot as the-dot};
+ghost use Rattle.cox.specs.Squares.{Square, zeros as the_zeros, flat_square, dot as the_dot};
 
 use cd::{Cd, LIMIT, PAIRS, Pair, SQUARE};
 
@@ -19,7 +19,7 @@ pub struct Cox {
 }
 
 pub fn zeros() -> [f64; SQUARE]
-    ensures { result ≡ flat_square limit the-zeros }
+    ensures { result ≡ flat_square limit the_zeros }
 {
     [0.0; SQUARE]
 }
@@ -86,7 +86,7 @@ pub fn matrix(cd: Cd) -> Cox
 // The sum of the products of the first k rows of the columns i and j, by rising index from 0.0.
 pub fn dot(m: &[f64; SQUARE], i: usize, j: usize, k: usize) -> f64
     requires { (i < limit) × (j < limit) × (k ≤ limit) }
-    ensures { (f : Square) → m.now ≡ flat_square limit f → result ≡ the-dot (f i) (f j) k }
+    ensures { (f : Square) → m.now ≡ flat_square limit f → result ≡ the_dot (f i) (f j) k }
 {
     let mut s = 0.0;
     let mut r = 0;

@@ -13,7 +13,7 @@ use Rattle.filing.specs.Numberings.{Numbering}
 use Rattle.filing.specs.Records.{nodes_length, pairs_length, node_bytes, pair_bytes, nodes_of, row_of, pairs_of, layout, IsRecord}
 use Rattle.filing.proofs.Bytes.{bytes_injective, append_injective, blocks_injective, filled_injective}
 use Rattle.filing.proofs.Gcd.{lowest_same}
-use Rattle.filing.proofs.Layouts.{lowest_edge, length_nodesOf, length_rowOf, length_pairsOf, length_nodes_part, layouts_equal}
+use Rattle.filing.proofs.Layouts.{lowest_edge, length_nodes_of, length_row_of, length_pairs_of, length_nodes_part, layouts_equal}
 use Rattle.filing.proofs.Numberings.{identity, compose, differ, inverse, inverse_right, inverse_left, inverse_numbering}
 use Rattle.filing.proofs.Order.{≼-antisym}
 
@@ -72,7 +72,7 @@ module _ (N : ℕ) {d e : Diagram} (wd : IsDiagram N d) (we : IsDiagram N e) {p 
 
       same_nodes : nodes_of d p n ≡ nodes_of e q n
       same_nodes =
-          filled_injective (nodes_length N) (nodes_of d p n) (nodes_of e q n) (length_nodesOf d p n ∙ sym (length_nodesOf e q n)) (rw (← size) at parts.0)
+          filled_injective (nodes_length N) (nodes_of d p n) (nodes_of e q n) (length_nodes_of d p n ∙ sym (length_nodes_of e q n)) (rw (← size) at parts.0)
 
       nodes : (i : ℕ) → i < n → d.node (p i) ≡ e.node (q i)
       nodes i h =
@@ -81,11 +81,11 @@ module _ (N : ℕ) {d e : Diagram} (wd : IsDiagram N d) (we : IsDiagram N e) {p 
 
       same_pairs : pairs_of d p n ≡ pairs_of e q n
       same_pairs =
-          filled_injective (pairs_length N) (pairs_of d p n) (pairs_of e q n) (length_pairsOf d p n ∙ sym (length_pairsOf e q n)) (rw (← size) at parts.1)
+          filled_injective (pairs_length N) (pairs_of d p n) (pairs_of e q n) (length_pairs_of d p n ∙ sym (length_pairs_of e q n)) (rw (← size) at parts.1)
 
       pairs : (i j : ℕ) → i < j → j < n → SameFraction (d.edge (p i) (p j)) (e.edge (q i) (q j))
       pairs i j h k =
-          let row = blocks_injective (row_of d p) (row_of e q) n (λ t m. length_rowOf d p t ∙ sym (length_rowOf e q t)) same_pairs j k in
+          let row = blocks_injective (row_of d p) (row_of e q) n (λ t m. length_row_of d p t ∙ sym (length_row_of e q t)) same_pairs j k in
           (pair_bytes_same (pair_is_edge wd np i j h k) (pair_is_edge we nq i j h (rw size at k))).0
           (blocks_injective _ _ j (λ t m. refl) row i h)
 

@@ -22,40 +22,40 @@ lowest_edge {x} h = record {
 
 -- ---- lengths
 
-pub length_nodeBytes : (v : Node) → length (node_bytes v) ≡ node_length
+pub length_node_bytes : (v : Node) → length (node_bytes v) ≡ node_length
 unfolding node_bytes
-length_nodeBytes v = refl
+length_node_bytes v = refl
 
-pub length_pairBytes : (x : Fraction) → length (pair_bytes x) ≡ 8
+pub length_pair_bytes : (x : Fraction) → length (pair_bytes x) ≡ 8
 unfolding pair_bytes
-length_pairBytes x = refl
+length_pair_bytes x = refl
 
-pub length_nodesOf : (d : Diagram) (p : ℕ → ℕ) (n : ℕ) → length (nodes_of d p n) ≡ nodes_length n
+pub length_nodes_of : (d : Diagram) (p : ℕ → ℕ) (n : ℕ) → length (nodes_of d p n) ≡ nodes_length n
 unfolding nodes_of
-length_nodesOf d p n = length_blocks _ node_length n (λ i h. length_nodeBytes (d.node (p i)))
+length_nodes_of d p n = length_blocks _ node_length n (λ i h. length_node_bytes (d.node (p i)))
 
-pub length_rowOf : (d : Diagram) (p : ℕ → ℕ) (j : ℕ) → length (row_of d p j) ≡ 8 * j
+pub length_row_of : (d : Diagram) (p : ℕ → ℕ) (j : ℕ) → length (row_of d p j) ≡ 8 * j
 unfolding row_of
-length_rowOf d p j = length_blocks _ 8 j (λ i h. length_pairBytes (d.edge (p i) (p j)))
+length_row_of d p j = length_blocks _ 8 j (λ i h. length_pair_bytes (d.edge (p i) (p j)))
 
 pub one_row_more : (n : ℕ) → pairs_length n + 8 * n ≡ pairs_length (suc n)
 one_row_more zero = refl
 one_row_more (suc n) = simp sub-one (omega arith)
 
-pub length_pairsOf : (d : Diagram) (p : ℕ → ℕ) (n : ℕ) → length (pairs_of d p n) ≡ pairs_length n
+pub length_pairs_of : (d : Diagram) (p : ℕ → ℕ) (n : ℕ) → length (pairs_of d p n) ≡ pairs_length n
 unfolding pairs_of
-length_pairsOf d p zero = refl
-length_pairsOf d p (suc n) = length-append (blocks (row_of d p) n) (row_of d p n) ∙ ap₂ ◌+◌ (length_pairsOf d p n) (length_rowOf d p n) ∙ one_row_more n
+length_pairs_of d p zero = refl
+length_pairs_of d p (suc n) = length-append (blocks (row_of d p) n) (row_of d p n) ∙ ap₂ ◌+◌ (length_pairs_of d p n) (length_row_of d p n) ∙ one_row_more n
 
 pub pairs_length_mono : {m n : ℕ} → m ≤ n → pairs_length m ≤ pairs_length n
 pairs_length_mono h = mul-le-mul (mul-le-mul_left 4 h) (omega arith)
 
 module _ (N : ℕ) (d : Diagram) (few : d.size ≤ N) (p : ℕ → ℕ) where
   pub nodes_fit : length (nodes_of d p d.size) ≤ nodes_length N
-  nodes_fit = omega (arith, length_nodesOf d p d.size)
+  nodes_fit = omega (arith, length_nodes_of d p d.size)
 
   pub pairs_fit : length (pairs_of d p d.size) ≤ pairs_length N
-  pairs_fit = rw (length_pairsOf d p d.size) (pairs_length_mono few)
+  pairs_fit = rw (length_pairs_of d p d.size) (pairs_length_mono few)
 
   pub length_nodes_part : length (filled (nodes_length N) (nodes_of d p d.size)) ≡ nodes_length N
   length_nodes_part = length_filled (nodes_length N) (nodes_of d p d.size) nodes_fit

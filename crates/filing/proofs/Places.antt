@@ -11,7 +11,7 @@ use Rattle.filing.specs.Bytes.{blocks}
 use Rattle.filing.specs.Diagrams.{Diagram, IsDiagram}
 use Rattle.filing.specs.Records.{node_length, nodes_length, pairs_length, node_bytes, pair_bytes, layout}
 use Rattle.filing.proofs.Bytes.{length_blocks}
-use Rattle.filing.proofs.Layouts.{Cut, node_cut, pair_cut, length_nodesOf, length_pairsOf, length_pairBytes, length_nodes_part}
+use Rattle.filing.proofs.Layouts.{Cut, node_cut, pair_cut, length_nodes_of, length_pairs_of, length_pair_bytes, length_nodes_part}
 
 -- x stands in l from place k on
 pub record Placed (l : List ℕ) (k : ℕ) (x : List ℕ) : Type 0 where
@@ -64,10 +64,10 @@ half_pairs j = let (t, e) = twice j in rw (mul_assoc 4 j (j - 1), e) (omega arit
 
 module _ (N : ℕ) {d : Diagram} (w : IsDiagram N d) (p : ℕ → ℕ) where
   pub node_placed : (i : ℕ) → i < d.size → Placed (layout N d p) (1 + node_length * i) (node_bytes (d.node (p i)))
-  node_placed i h = placed_cut (node_cut N d p i h) (omega (arith, length_nodesOf d p i))
+  node_placed i h = placed_cut (node_cut N d p i h) (omega (arith, length_nodes_of d p i))
 
   pub pair_placed : (i j : ℕ) → i < j → j < d.size → Placed (layout N d p) (1 + nodes_length N + 8 * (j * (j - 1) / 2 + i)) (pair_bytes (d.edge (p i) (p j)))
-  pair_placed i j h k = placed_cut (pair_cut N d p i j h k) (simp length-append (omega (arith, length_nodes_part N d w.few p, length_pairsOf d p j, row, half_pairs j)))
+  pair_placed i j h k = placed_cut (pair_cut N d p i j h k) (simp length-append (omega (arith, length_nodes_part N d w.few p, length_pairs_of d p j, row, half_pairs j)))
     where
       row : length (blocks (λ t. pair_bytes (d.edge (p t) (p j))) i) ≡ 8 * i
-      row = length_blocks _ 8 i (λ t l. length_pairBytes (d.edge (p t) (p j)))
+      row = length_blocks _ 8 i (λ t l. length_pair_bytes (d.edge (p t) (p j)))

@@ -1,19 +1,18 @@
 -- The pattern that the code finds is the spec's: patterns count the doubles, so a larger pattern has a larger halfway point, and the last one whose halfway
 -- point is at most the root is the one that `last` finds. Assumes nothing.
-use mathlib.Core.Path.{◌≡◌, refl, sym, ap, ◌∙◌, subst}
+use mathlib.Core.Path.{◌≡◌, sym, ap, ◌∙◌, subst}
 use mathlib.Core.Logic.{inl, inr}
 use mathlib.Core.Bool.{Bool, true, false, cond}
 use Prim.Native.Nat.{ℕ, zero, suc, ◌+◌, ◌-◌, ◌*◌, ◌/◌, ◌%◌, ◌^◌, ◌≤◌, ◌<◌}
-use native.Mathlib.Nat.{le_refl, le_trans, le_of_eq, le_of_lt, lt_of_lt_of_le, lt_of_le_of_lt, not-le_of_lt, lt_of_not-le, eq-or-lt_of_le, mul_assoc, mul_comm, mul-mul-mul_comm, mul-le-mul_left, mul-le-mul_right, mul-lt-mul_of_pos_right, mul-le-mul, mul-pos, pow-succ', pow-suc}
+use native.Mathlib.Nat.{le_refl, le_trans, le_of_eq, le_of_lt, lt_of_lt_of_le, not-le_of_lt, lt_of_not-le, eq-or-lt_of_le, mul_assoc, mul-mul-mul_comm, mul-le-mul_left, mul-le-mul_right, mul-lt-mul_of_pos_right, mul-le-mul, mul-pos, pow-succ'}
 use native.Mathlib.Decide.{dec_le}
-use native.Mathlib.Numerals.{add-one}
 use native.Mathlib.Omega.{arith}
 use borrow.Author.Tests.{le-leb, lt-leb}
-use lib.Dec.{leb, lit≤}
+use lib.Dec.{lit≤}
 use lib.Pow.{pow_pos, pow_mono, pow-add}
 use Rattle.float.specs.Root.{units, halfway, scaled, reaches, last, root_bits}
-use Rattle.float.specs.Steps.{WholeRoot, Shifted}
-use Rattle.float.proofs.Steps.{units_small, units_normal, small_root}
+use Rattle.float.specs.Steps.{WholeRoot}
+use Rattle.float.proofs.Steps.{units_small, units_normal}
 
 -- ---- a larger pattern stands for a larger number
 

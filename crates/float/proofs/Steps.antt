@@ -1,13 +1,12 @@
 -- The arithmetic of the root's loops. Assumes nothing.
-use mathlib.Core.Path.{◌≡◌, refl, sym, ap, ◌∙◌, subst}
-use mathlib.Core.Bool.{Bool, true, false, cond}
+use mathlib.Core.Path.{◌≡◌, sym, ap, ◌∙◌, subst}
+use mathlib.Core.Bool.{Bool, cond}
 use Prim.Native.Nat.{ℕ, zero, suc, ◌+◌, ◌-◌, ◌*◌, ◌/◌, ◌%◌, ◌^◌, ◌≤◌, ◌<◌}
-use native.Mathlib.Nat.{le_trans, lt_of_lt_of_le, not-le_of_lt, lt_of_not-le, mul_assoc, mul_comm, mul-le-mul_right, mul-le-mul, pow-suc, sub-zero}
+use native.Mathlib.Nat.{le_trans, lt_of_lt_of_le, not-le_of_lt, lt_of_not-le, mul_assoc, mul-le-mul_right, mul-le-mul, pow-suc, sub-zero}
 use native.Mathlib.Numerals.{add-one}
 use native.Mathlib.Omega.{arith}
 use borrow.Author.Tests.{lt-ltb, le-ltb}
-use lib.Dec.{ltb}
-use lib.Pow.{pow_pos, pow_mono, pow-add}
+use lib.Pow.{pow_mono, pow-add}
 use Rattle.float.specs.Root.{units}
 use Rattle.float.specs.Steps.{Stepped, WholeRoot, Shifted}
 

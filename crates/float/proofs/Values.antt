@@ -1,15 +1,15 @@
 -- From patterns to values: how many units a double has, and which values each test of `root` leaves. Assumes nothing.
 use mathlib.Core.Path.{◌≡◌, refl, sym, ap, ◌∙◌, subst}
 use mathlib.Core.Logic.{inl, inr}
-use mathlib.Core.Bool.{Bool, true, false, not, ◌&&◌, ◌||◌, beq, cond, true≢false, false≢true}
+use mathlib.Core.Bool.{Bool, true, false, not, ◌&&◌, ◌||◌, beq, cond, true≢false}
 use Prim.Native.Nat.{ℕ, zero, suc, ◌+◌, ◌-◌, ◌*◌, ◌/◌, ◌%◌, ◌^◌, ◌≤◌, ◌<◌}
-use native.Mathlib.Nat.{le_trans, lt_of_lt_of_le, lt_of_le_of_lt, not-le_of_lt, lt_of_not-le, eq-zero-or-pos, mod-eq_of_lt, mul-one, mul_assoc, mul_right_comm, mul-pos, mul_comm, zero-mul, zero-lt-suc, mul-lt-mul_of_pos_right, mul-div_cancel, div-lt_iff_lt-mul}
+use native.Mathlib.Nat.{not-le_of_lt, lt_of_not-le, eq-zero-or-pos, mod-eq_of_lt, mul-one, mul_right_comm, mul-pos, zero-lt-suc, mul-lt-mul_of_pos_right, mul-div_cancel, div-lt_iff_lt-mul}
 use native.Mathlib.Decide.{dec_le}
 use native.Mathlib.Omega.{arith}
-use borrow.Author.Tests.{lt-ltb, le-ltb, le-leb, lt-leb, eq-eqb, ne_eqb}
-use lib.IntN.{ℤ, pos, negsuc}
-use lib.Dec.{T, leb, ltb, eqb, lit<, lit≤, ltb→lt}
-use lib.Pow.{pow_pos, pow-add}
+use borrow.Author.Tests.{lt-ltb, le-ltb, lt-leb, eq-eqb, ne_eqb}
+use lib.IntN.{ℤ}
+use lib.Dec.{T, leb, ltb, eqb, lit≤, ltb→lt}
+use lib.Pow.{pow_pos}
 use lib.Ieee.{Float, nan, inf, fin, binary64, up, down, size, odd, of_fields, of_bits, to_bits, nan_bits, is_nan, fits, lt, eq, div}
 use lib.Ieee.Bits.{of_bits-to_bits, nan_bits_above}
 use lib.Ieee.Digits.{size-le}

@@ -1,5 +1,5 @@
 -- Document 01: "each operation rounded once (IEEE 754 binary64)". The kit's IEEE 754 at binary64, under short names.
-use Rattle.std.specs.Prelude.{ℕ, ◌^◌, Bool, true, false, pos, Float}
+use Rattle.std.specs.Prelude.{ℕ, ◌^◌, false, pos, Float}
 use Rattle.std.specs.Float.Ieee as Ieee
 use Rattle.std.specs.Float.{binary64}
 

@@ -4,10 +4,10 @@
 ghost use Rattle.std.specs.Prelude.{List, ◌≡◌, ℕ, ◌<◌, ◌≤◌, length, Float};
 ghost use Rattle.cd.specs.Diagrams.{Stored, limit, cd_of};
 ghost use Rattle.cd.specs.declared.Node.{Node as ANode};
-ghost use Rattle.generator.specs.Generator.{value as the_value, values as the_values, solve as the-solve, is_infinite, first_infinite};
+ghost use Rattle.generator.specs.Generator.{value as the_value, values as the_values, solve as the_solve, is_infinite, first_infinite};
 ghost use Rattle.generator.specs.Shown.{generator_of, lost};
-ghost use Rattle.generator.specs.TrueDistances.{restᶠ, placeᶠ, coordinates as the-coordinates};
-ghost use Rattle.cox.specs.Squares.{Square, flat, flat_square, dot as the-dot};
+ghost use Rattle.generator.specs.TrueDistances.{restᶠ, placeᶠ, coordinates as the_coordinates};
+ghost use Rattle.cox.specs.Squares.{Square, flat, flat_square, dot as the_dot};
 
 use cd::{Cd, LIMIT, Node, SQUARE};
 
@@ -82,7 +82,7 @@ fn lose(m: &[f64; SQUARE], b: [f64; LIMIT], i: usize, v: f64) -> [f64; LIMIT]
 // The triangular system, from the last row to the first.
 fn solve(m: &[f64; SQUARE], values: [f64; LIMIT], n: usize) -> [f64; LIMIT]
     requires { n ≤ limit }
-    ensures { (f : Square) (c : ℕ → Float) → m.now ≡ flat_square limit f → values ≡ flat limit c → result ≡ flat limit (the-solve f n c) }
+    ensures { (f : Square) (c : ℕ → Float) → m.now ≡ flat_square limit f → values ≡ flat limit c → result ≡ flat limit (the_solve f n c) }
 {
     let mut b = values;
     let mut left = n;
@@ -128,7 +128,7 @@ fn place(m: &[f64; SQUARE], values: [f64; LIMIT], n: usize) -> [f64; LIMIT]
 // The coordinates over the Rust's mirrors, or over walls.
 fn coordinates(walls: bool, m: &[f64; SQUARE], values: [f64; LIMIT], n: usize) -> [f64; LIMIT]
     requires { n ≤ limit }
-    ensures { (f : Square) (c : ℕ → Float) → m.now ≡ flat_square limit f → values ≡ flat limit c → result ≡ flat limit (the-coordinates walls f n c) }
+    ensures { (f : Square) (c : ℕ → Float) → m.now ≡ flat_square limit f → values ≡ flat limit c → result ≡ flat limit (the_coordinates walls f n c) }
 {
     if walls {
         place(m, values, n)
@@ -140,7 +140,7 @@ fn coordinates(walls: bool, m: &[f64; SQUARE], values: [f64; LIMIT], n: usize) -
 // The sum of the squares of the first n, by rising index from 0.0.
 fn squares(b: [f64; LIMIT], n: usize) -> f64
     requires { n ≤ limit }
-    ensures { (c : ℕ → Float) → b ≡ flat limit c → result ≡ the-dot c c n }
+    ensures { (c : ℕ → Float) → b ≡ flat limit c → result ≡ the_dot c c n }
 {
     let mut s = 0.0;
     let mut r = 0;
@@ -153,7 +153,7 @@ fn squares(b: [f64; LIMIT], n: usize) -> f64
 
 pub fn of(walls: bool, m: &[f64; SQUARE], values: [f64; LIMIT], n: usize) -> Generator
     requires { n ≤ limit }
-    ensures { (f : Square) (c : ℕ → Float) → m.now ≡ flat_square limit f → values ≡ flat limit c → result ≡ generator_of n (the-coordinates walls f n c) }
+    ensures { (f : Square) (c : ℕ → Float) → m.now ≡ flat_square limit f → values ≡ flat limit c → result ≡ generator_of n (the_coordinates walls f n c) }
 {
     let b = coordinates(walls, m, values, n);
     Generator {

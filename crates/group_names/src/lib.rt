@@ -4,7 +4,7 @@
 ghost use Rattle.std.specs.Prelude.{true, ◌≡◌, ◌*◌, ◌^◌, ◌<◌, ◌≤◌};
 ghost use Rattle.cd.specs.Diagrams.{limit};
 ghost use Rattle.filing.specs.Factorials.{factorial};
-ghost use Rattle.group_names.specs.Names.{is_name, rank as the-rank, entry as the-entry, written as the_written, order as the-order};
+ghost use Rattle.group_names.specs.Names.{is_name, rank as the_rank, entry as the_entry, written as the_written, order as the_order};
 
 use cd::LIMIT;
 use parse::Answer;
@@ -68,7 +68,7 @@ pub fn is_name(x: Name) -> bool
 
 // How many nodes the diagram has.
 pub fn rank(x: Name) -> usize
-    ensures { result ≡ the-rank x }
+    ensures { result ≡ the_rank x }
 {
     match x {
         Name::A(n) => n,
@@ -87,7 +87,7 @@ pub fn rank(x: Name) -> usize
 // The whole number between the nodes i and j, 2 where nothing joins them.
 pub fn entry(x: Name, i: usize, j: usize) -> u32
     requires { (i < limit) × (j < limit) }
-    ensures { result ≡ the-entry x i j }
+    ensures { result ≡ the_entry x i j }
 {
     let c = cox::families::chain(i, j);
     let b = cox::families::made(0, 1, 2, c, i, j);
@@ -146,8 +146,8 @@ fn multiples(of: u64, n: usize) -> u64
 }
 
 pub fn order(x: Name) -> u64
-    requires { (is_name x ≡ true) × (the-rank x ≤ 15) }
-    ensures { result ≡ the-order x }
+    requires { (is_name x ≡ true) × (the_rank x ≤ 15) }
+    ensures { result ≡ the_order x }
 {
     match x {
         Name::A(n) => multiples(1, n + 1),

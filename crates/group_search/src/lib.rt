@@ -12,8 +12,8 @@ ghost use Rattle.tables.specs.Diagrams.{diagram};
 ghost use Rattle.tables.specs.Tables.{IsKept};
 ghost use Rattle.group_names.specs.declared.Group.{Group as AGroup};
 ghost use Rattle.group_names.specs.declared.Name.{Name as AName};
-ghost use Rattle.group_names.specs.Named.{blank, listing, refusal as the-refusal, Names};
-ghost use Rattle.group_search.specs.Steps.{whole_number, Wants, Suits, GoesOn, Ready, label_count, Placed, Bond, Mirrored, candidates as the-candidates, Tells, Meets};
+ghost use Rattle.group_names.specs.Named.{blank, listing, refusal as the_refusal, Names};
+ghost use Rattle.group_search.specs.Steps.{whole_number, Wants, Suits, GoesOn, Ready, label_count, Placed, Bond, Mirrored, candidates as the_candidates, Tells, Meets};
 
 use cd::{Cd, CdError, LIMIT, SQUARE};
 use group_names::{Group, Groups, Name};
@@ -156,7 +156,7 @@ const CANDIDATES: usize = 10;
 
 // The names that a component of m nodes may have, if it is joined by p where m is 2.
 fn candidates(m: usize, p: u32) -> [Name; CANDIDATES]
-    ensures { result ≡ the-candidates m p }
+    ensures { result ≡ the_candidates m p }
 {
     [
         Name::A(m),
@@ -222,7 +222,7 @@ fn none() -> Groups
 }
 
 pub fn refusal(e: CdError) -> Groups
-    ensures { result ≡ the-refusal e }
+    ensures { result ≡ the_refusal e }
 {
     Groups {
         answer: Answer::Refused(e),

@@ -2,7 +2,7 @@
 #![tactic(auto)]
 
 ghost use Rattle.std.specs.Prelude.{◌≡◌};
-ghost use Rattle.lexicon.specs.Files.{refusal as the-refusal, Files};
+ghost use Rattle.lexicon.specs.Files.{refusal as the_refusal, Files};
 ghost use Rattle.lexicon.specs.Reads.{Reads};
 ghost use Rattle.lexicon.specs.ReadsRecord.{ReadsRecord};
 
@@ -45,7 +45,7 @@ pub struct Filed {
 }
 
 fn refusal(e: CdError) -> Filed
-    ensures { result ≡ the-refusal e }
+    ensures { result ≡ the_refusal e }
 {
     let plain = search::plain();
     Filed {

@@ -6,7 +6,7 @@ use Rattle.shelf.specs.declared.Added.{Added}
 use Rattle.shelf.specs.declared.Checked.{Checked}
 use Rattle.shelf.specs.declared.Found.{Found}
 use Rattle.shelf.proofs.Once as shelf
-use Rattle.shelf.proofs.RefusedAlike.{bisect_as_find as as-find}
+use Rattle.shelf.proofs.RefusedAlike.{bisect_as_find as as_find}
 use Rattle.shelf_rescue.specs.declared.Rescued.{Rescued}
 use Rattle.shelf_rescue.proofs.Once as rescue
 use Rattle.lexicon_c.specs.Calls.{found_numbers, ChecksForC, FindsForC, BisectsForC, AddsForC, RescuesForC}
@@ -45,5 +45,5 @@ rescues_once f g =
 -- IN A FILE THAT `lexicon_shelf_check` ANSWERS WITH 0, `lexicon_shelf_bisect` ANSWERS WHAT `lexicon_shelf_find` DOES
 pub bisect_as_find : {file bytes c u v : List ℕ} {k m n : ℕ} → ChecksForC file c k → k ≡ 0 → FindsForC file bytes u m → BisectsForC file bytes v n → (u ≡ v) × (m ≡ n)
 bisect_as_find check z f g =
-    let same = as-find check.checks (answered_0 check.tells z) f.finds g.bisects in
+    let same = as_find check.checks (answered_0 check.tells z) f.finds g.bisects in
     tells_once (ap (λ (c : Found). c.answer) same) (ap found_numbers same) f.tells g.tells

@@ -68,11 +68,11 @@ unfoldable pub up_from : ℕ → ℕ → List ℕ
 up_from m zero = []
 up_from m (suc n) = m ∷ up_from (suc m) n
 
-pub label_upFrom : (m n k : ℕ) → k < n → label_in (up_from m n) k ≡ m + k
+pub label_up_from : (m n k : ℕ) → k < n → label_in (up_from m n) k ≡ m + k
 unfolding up_from
-label_upFrom m zero k h = absurd (not-suc-le-zero h)
-label_upFrom m (suc n) zero h = omega arith
-label_upFrom m (suc n) (suc k) h = omega (arith, label_upFrom (suc m) n k (le_of_suc-le-suc h))
+label_up_from m zero k h = absurd (not-suc-le-zero h)
+label_up_from m (suc n) zero h = omega arith
+label_up_from m (suc n) (suc k) h = omega (arith, label_up_from (suc m) n k (le_of_suc-le-suc h))
 
 module _ (E : ℕ → ℕ → Type 0) (n : ℕ) (f : ℕ → ℕ) where
   -- before the first pair each node has a label of its own

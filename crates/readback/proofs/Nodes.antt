@@ -79,9 +79,9 @@ pub node_read : (l : List ℕ) (i x : ℕ) → x ≡ number_at 8 l (2 + node_len
 unfolding node_at
 node_read l i x e = let s : 2 + node_length * i ≡ 1 + node_length * i + 1 = omega arith in rw (e, s)
 
-pub length_nodesTo : (l : List ℕ) (n : ℕ) → length (nodes_to l n) ≡ n
+pub length_nodes_to : (l : List ℕ) (n : ℕ) → length (nodes_to l n) ≡ n
 unfolding nodes_to
-length_nodesTo l n = length_singles (λ i. node (node_at l i)) n
+length_nodes_to l n = length_singles (λ i. node (node_at l i)) n
 
 pub nodes_none : (l : List ℕ) → nodes_to l 0 ≡ []
 unfolding nodes_to blocks
@@ -94,6 +94,6 @@ nodes_one_more l i = rw (add-one i)
 pub nodes_next : (N : ℕ) (l : List ℕ) (i : ℕ) → i < N
     → set (padded (place Unringed) N (map place (nodes_to l i))) i (place (node (node_at l i))) ≡ padded (place Unringed) N (map place (nodes_to l (i + 1)))
 nodes_next N l i h =
-    let long : length (map place (nodes_to l i)) ≡ i = length-map (nodes_to l i) place ∙ length_nodesTo l i in
+    let long : length (map place (nodes_to l i)) ≡ i = length-map (nodes_to l i) place ∙ length_nodes_to l i in
     rw (nodes_one_more l i, map-append place (nodes_to l i) (node (node_at l i) ∷ []))
     (rw long at (set_padded (place Unringed) (place (node (node_at l i))) N (map place (nodes_to l i)) (omega arith)))

@@ -34,7 +34,7 @@ use Rattle.tables.specs.Diagrams.{filed, two, joint, diagram}
 use Rattle.tables.specs.Tables.{IsNumber, IsLowest, IsKept}
 use Rattle.tables.proofs.Joints.{two_edge, joint_symmetric}
 use Rattle.readback.specs.Spelled.{node, nodes_to, edge_at, row_to, edges_to, nodes_in, edges_in}
-use Rattle.readback.proofs.Nodes.{length_nodesTo}
+use Rattle.readback.proofs.Nodes.{length_nodes_to}
 use Rattle.readback.proofs.StoredEdges.{blocks_apart, edge_apart}
 
 -- ---- nodes
@@ -148,9 +148,9 @@ unfolding kept
 kept_lowest x h = picked_lowest (is_two (edge_of x)) x h
 
 module _ (N : ℕ) (l : List ℕ) where
-  joint_edgeAt : (i j : ℕ) → joint (edge_at N l j i) i j ≡ kept (fraction_at l (pair_place N i j))
+  joint_edge_at : (i j : ℕ) → joint (edge_at N l j i) i j ≡ kept (fraction_at l (pair_place N i j))
   unfolding edge_at kept
-  joint_edgeAt i j =
+  joint_edge_at i j =
       let e : Edge = edge_of (fraction_at l (pair_place N i j)) in
       let s : Stored = record { first = i; other = j; edge = e } in
       joint_stored i j (is_two e) s (joins_same i j s (inl (refl, refl)))
@@ -160,7 +160,7 @@ module _ (N : ℕ) (l : List ℕ) where
   joint_rising n i j h k =
       joint_blocks i j (λ m. row_to N l m m) n j k (λ m o ne. blocks_apart (edge_at N l m) i j m (λ t q. edge_apart N l m t i j (⊎_elim (λ e. ne e.1) (λ e. omega arith))))
       ∙ joint_blocks i j (edge_at N l j) j i h (λ m o ne. edge_apart N l j m i j (⊎_elim (λ e. ne e.0) (λ e. omega arith)))
-      ∙ joint_edgeAt i j
+      ∙ joint_edge_at i j
 
 -- ---- the diagram that is read back
 
@@ -170,7 +170,7 @@ read_back N l = diagram (nodes_in l) (edges_in N l)
 module _ (N : ℕ) (l : List ℕ) where
   pub spelled_size : (read_back N l).size ≡ (spelled N l).size
   unfolding diagram spelled
-  spelled_size = length_nodesTo l (get_or l 0 0)
+  spelled_size = length_nodes_to l (get_or l 0 0)
 
   back_symmetric : (i j : ℕ) → (read_back N l).edge i j ≡ (read_back N l).edge j i
   unfolding diagram
@@ -184,7 +184,7 @@ module _ (N : ℕ) (l : List ℕ) (w : IsDiagram N (spelled N l)) where
   pub spelled_numbers : (i : ℕ) → i < length (nodes_in l) → IsNumber (get_or (nodes_in l) i Unringed)
   unfolding spelled
   spelled_numbers i h =
-      let k : i < get_or l 0 0 = rw (← (length_nodesTo l (get_or l 0 0))) h in
+      let k : i < get_or l 0 0 = rw (← (length_nodes_to l (get_or l 0 0))) h in
       subst IsNumber (sym (nodes_to_at l (get_or l 0 0) i k)) (node_number_lem (node_at l i) (w.nodes i k))
 
   spelled_kept : (i j : ℕ) → i < (spelled N l).size → j < (spelled N l).size → i ≢ j → (read_back N l).edge i j ≡ kept ((spelled N l).edge i j)

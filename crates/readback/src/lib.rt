@@ -10,7 +10,7 @@ ghost use Rattle.cd.specs.Edges.{edge_of};
 ghost use Rattle.cd.specs.Minimal.{Decides};
 ghost use Rattle.cd.specs.declared.Node.TheVariants.{Unringed};
 ghost use Rattle.filing.specs.Diagrams.{IsNode, IsDiagram};
-ghost use Rattle.filing.specs.Readable.{number_at, spelled as the-spelled};
+ghost use Rattle.filing.specs.Readable.{number_at, spelled as the_spelled};
 ghost use Rattle.filing.specs.Records.{record_length};
 ghost use Rattle.parse.specs.Reading.{Reading, answer};
 ghost use Rattle.tables.specs.Tables.{IsPair, IsKept};
@@ -110,7 +110,7 @@ fn are_pairs(s: &[u8], n: usize) -> bool
 // Whether count, kinds, values and fractions are a diagram's.
 fn is_spelled(s: &[u8]) -> bool
     requires { length s.now ≡ record_length limit }
-    ensures { Decides (IsKept limit (the-spelled limit s.now)) result }
+    ensures { Decides (IsKept limit (the_spelled limit s.now)) result }
 {
     let n = s[0] as usize;
     if LIMIT < n {
@@ -201,7 +201,7 @@ fn read_edges(s: &[u8], n: usize) -> Edges
 
 // The diagram that bytes spell.
 fn spelled(s: &[u8]) -> Cd
-    requires { (length s.now ≡ record_length limit) × IsDiagram limit (the-spelled limit s.now) }
+    requires { (length s.now ≡ record_length limit) × IsDiagram limit (the_spelled limit s.now) }
     ensures { result ≡ cd_of (nodes_in s.now) (edges_in limit s.now) }
 {
     let n = s[0] as usize;

@@ -20,16 +20,16 @@ module _ (kinds bits : List ℕ) (p : ℕ → ℕ) where
   unfolding table_node
   length_node_lem i = refl
 
-  pub length_tableNodes : (n : ℕ) → length (table_nodes kinds bits p n) ≡ nodes_length n
+  pub length_table_nodes : (n : ℕ) → length (table_nodes kinds bits p n) ≡ nodes_length n
   unfolding table_nodes
-  length_tableNodes n = length_blocks _ node_length n (λ i h. length_node_lem i)
+  length_table_nodes n = length_blocks _ node_length n (λ i h. length_node_lem i)
 
   pub node_then : (i : ℕ) (l : List ℕ) → 1 + node_length * i < length l
       → written (1 + node_length * i + 1) (bytes 8 (at bits (p i))) (set (written 1 (table_nodes kinds bits p i) l) (1 + node_length * i) (at kinds (p i)))
       ≡ written 1 (table_nodes kinds bits p (i + 1)) l
   unfolding table_nodes table_node
   node_then i l h =
-      let e = length_written 1 (table_nodes kinds bits p i) l (omega (arith, length_tableNodes i)) in
+      let e = length_written 1 (table_nodes kinds bits p i) l (omega (arith, length_table_nodes i)) in
       byte_then (1 + node_length * i) (at kinds (p i)) (bytes 8 (at bits (p i))) (written 1 (table_nodes kinds bits p i) l) (rw e h)
       ∙ block_then 1 node_length (λ t. table_node kinds bits (p t)) i l (λ t m. length_node_lem t) (omega arith)
 
@@ -47,21 +47,21 @@ module _ (N : ℕ) (pairs : List ℕ) (p : ℕ → ℕ) where
       → written (k + 8 * i) (pair_of j i) (written k (blocks (pair_of j) i) l) ≡ written k (blocks (pair_of j) (i + 1)) l
   pair_then j k i l h = block_then k 8 (pair_of j) i l (λ t m. length_pair j t) h
 
-  pub length_tableRow : (j : ℕ) → length (table_row N pairs p j) ≡ 8 * j
+  pub length_table_row : (j : ℕ) → length (table_row N pairs p j) ≡ 8 * j
   unfolding table_row
-  length_tableRow j = length_blocks (pair_of j) 8 j (λ i h. length_pair j i)
+  length_table_row j = length_blocks (pair_of j) 8 j (λ i h. length_pair j i)
 
-  pub length_tablePairs : (n : ℕ) → length (table_pairs N pairs p n) ≡ pairs_length n
+  pub length_table_pairs : (n : ℕ) → length (table_pairs N pairs p n) ≡ pairs_length n
   unfolding table_pairs
-  length_tablePairs zero = refl
-  length_tablePairs (suc n) =
-      length-append (blocks (table_row N pairs p) n) (table_row N pairs p n) ∙ ap₂ ◌+◌ (length_tablePairs n) (length_tableRow n) ∙ one_row_more n
+  length_table_pairs zero = refl
+  length_table_pairs (suc n) =
+      length-append (blocks (table_row N pairs p) n) (table_row N pairs p n) ∙ ap₂ ◌+◌ (length_table_pairs n) (length_table_row n) ∙ one_row_more n
 
   pub pairs_fit : (n : ℕ) → n ≤ N → length (table_pairs N pairs p n) ≤ pairs_length N
-  pairs_fit n h = rw (length_tablePairs n) (pairs_length_mono h)
+  pairs_fit n h = rw (length_table_pairs n) (pairs_length_mono h)
 
   pub pairs_more : (j : ℕ) → length (table_pairs N pairs p (j + 1)) ≡ length (table_pairs N pairs p j) + 8 * j
-  pairs_more j = rw (add-one j, length_tablePairs (suc j), length_tablePairs j, one_row_more j)
+  pairs_more j = rw (add-one j, length_table_pairs (suc j), length_table_pairs j, one_row_more j)
 
   -- row j fits behind those before it
   pub row_fits : (j : ℕ) → j < N → length (table_pairs N pairs p j) + 8 * j ≤ pairs_length N
@@ -76,11 +76,11 @@ module _ (N : ℕ) (pairs : List ℕ) (p : ℕ → ℕ) where
 
 module _ (N n : ℕ) (kinds bits pairs : List ℕ) (p : ℕ → ℕ) (h : n ≤ N) where
   nodes_fit : length (table_nodes kinds bits p n) ≤ nodes_length N
-  nodes_fit = omega (arith, length_tableNodes kinds bits p n)
+  nodes_fit = omega (arith, length_table_nodes kinds bits p n)
 
-  pub length_tableLayout : length (table_layout N n kinds bits pairs p) ≡ record_length N
+  pub length_table_layout : length (table_layout N n kinds bits pairs p) ≡ record_length N
   unfolding table_layout
-  length_tableLayout =
+  length_table_layout =
       let nodes = length_filled (nodes_length N) (table_nodes kinds bits p n) nodes_fit in
       let rows = length_filled (pairs_length N) (table_pairs N pairs p n) (pairs_fit N pairs p n h) in
       let both = length-append (filled (nodes_length N) (table_nodes kinds bits p n)) (filled (pairs_length N) (table_pairs N pairs p n)) in

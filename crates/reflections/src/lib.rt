@@ -3,10 +3,10 @@
 
 ghost use Rattle.std.specs.Prelude.{◌≡◌, ◌<◌, ◌≤◌};
 ghost use Rattle.cd.specs.Diagrams.{limit};
-ghost use Rattle.reflections.specs.Reflections.{unit as the-unit, reflection as the-reflection};
+ghost use Rattle.reflections.specs.Reflections.{unit as the_unit, reflection as the_reflection};
 ghost use Rattle.cox.specs.Shown.{put_column};
 ghost use Rattle.reflections.specs.Shown.{column, reflections_of};
-ghost use Rattle.cox.specs.Squares.{Square, flat_square, dot as the-dot};
+ghost use Rattle.cox.specs.Squares.{Square, flat_square, dot as the_dot};
 
 use cd::{LIMIT, SQUARE};
 
@@ -23,7 +23,7 @@ pub struct Reflections {
 }
 
 fn unit(c: usize, r: usize) -> f64
-    ensures { result ≡ the-unit c r }
+    ensures { result ≡ the_unit c r }
 {
     if r == c { 1.0 } else { 0.0 }
 }
@@ -31,7 +31,7 @@ fn unit(c: usize, r: usize) -> f64
 // The unit column c times the first k rows of the mirror i.
 fn unit_dot(m: &[f64; SQUARE], c: usize, i: usize, k: usize) -> f64
     requires { (i < limit) × (k ≤ limit) }
-    ensures { (f : Square) → m.now ≡ flat_square limit f → result ≡ the-dot (the-unit c) (f i) k }
+    ensures { (f : Square) → m.now ≡ flat_square limit f → result ≡ the_dot (the_unit c) (f i) k }
 {
     let mut s = 0.0;
     let mut r = 0;
@@ -57,7 +57,7 @@ fn put_column(out: &mut [f64; SQUARE], m: &[f64; SQUARE], i: usize, c: usize, q:
 // The reflection in the mirror i of n.
 fn reflection(m: &[f64; SQUARE], i: usize, n: usize) -> [f64; SQUARE]
     requires { (i < limit) × (n ≤ limit) }
-    ensures { (f : Square) → m.now ≡ flat_square limit f → result ≡ flat_square limit (the-reflection (f i) n) }
+    ensures { (f : Square) → m.now ≡ flat_square limit f → result ≡ flat_square limit (the_reflection (f i) n) }
 {
     let square = cox::dot(m, i, i, n);
     let mut out = cox::zeros();

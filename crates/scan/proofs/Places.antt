@@ -1,6 +1,6 @@
 -- An edge that was read is one, and the place after it is past where reading began, and not past the end of the text. By induction on the bytes: a run ends
 -- where it stands, or goes on one byte further. Assumes nothing.
-use Prim.Native.Nat.{ℕ, ◌+◌, ◌-◌, ◌≤◌, ◌<◌}
+use Prim.Native.Nat.{ℕ, ◌+◌, ◌≤◌, ◌<◌}
 use mathlib.Core.Bool.{Bool, true, false}
 use mathlib.Core.List.{List, [], ◌∷◌}
 use mathlib.Core.Path.{◌≡◌, refl}

@@ -15,8 +15,8 @@ use Rattle.blocks.proofs.Rows.{row_more}
 use Rattle.blocks.proofs.grow.Goals as goal
 use Rattle.blocks.proofs.grow.Goals.{At-loop-w, In-loop-w}
 
-node-low : (c : At-loop-w) → at c.args.p.now c.args.j < limit
-node-low c = let h = c.requires in omega (arith, h.2.within c.args.j h.1)
+node_low : (c : At-loop-w) → at c.args.p.now c.args.j < limit
+node_low c = let h = c.requires in omega (arith, h.2.within c.args.j h.1)
 
 digit_low : (c : At-loop-w) → table limit c.args.r.now (at c.args.p.now c.args.j) c.loop-w.w < base
 digit_low c = c.requires.3 (at c.args.p.now c.args.j) c.loop-w.w
@@ -61,16 +61,16 @@ pub overflow_mul-keys-in-loop-w : goal.overflow_mul-keys-in-loop-w
 overflow_mul-keys-in-loop-w c = omega (arith, key_low (goal.at.overflow_mul-keys-in-loop-w c).In-loop-w)
 
 pub overflow_mul-keys-in-loop-w-2 : goal.overflow_mul-keys-in-loop-w-2
-overflow_mul-keys-in-loop-w-2 c = omega (arith, node-low (goal.at.overflow_mul-keys-in-loop-w-2 c).At-loop-w)
+overflow_mul-keys-in-loop-w-2 c = omega (arith, node_low (goal.at.overflow_mul-keys-in-loop-w-2 c).At-loop-w)
 
 pub overflow_add-keys-in-loop-w : goal.overflow_add-keys-in-loop-w
-overflow_add-keys-in-loop-w c = omega (arith, node-low (goal.at.overflow_add-keys-in-loop-w c).At-loop-w)
+overflow_add-keys-in-loop-w c = omega (arith, node_low (goal.at.overflow_add-keys-in-loop-w c).At-loop-w)
 
 pub offset_bounds-r-v : goal.offset_bounds-r-v
-offset_bounds-r-v c = omega (arith, node-low (goal.at.offset_bounds-r-v c).At-loop-w)
+offset_bounds-r-v c = omega (arith, node_low (goal.at.offset_bounds-r-v c).At-loop-w)
 
 pub bounds-r-v : goal.bounds-r-v
-bounds-r-v c = omega (arith, node-low (goal.at.bounds-r-v c).At-loop-w)
+bounds-r-v c = omega (arith, node_low (goal.at.bounds-r-v c).At-loop-w)
 
 pub overflow_add-keys-in-loop-w-2 : goal.overflow_add-keys-in-loop-w-2
 overflow_add-keys-in-loop-w-2 c = omega (arith, key_low (goal.at.overflow_add-keys-in-loop-w-2 c).In-loop-w, digit_low (goal.at.overflow_add-keys-in-loop-w-2 c).At-loop-w)

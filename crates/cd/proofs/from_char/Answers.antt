@@ -24,11 +24,11 @@ abbrev Others : Type 0 → List Entry → ℕ → Type 0
 Others X [] b = X
 Others X (e ∷ es) b = Others (X × (b ≡ code e.letter → ⊥)) es b
 
-no-entry : (X : Type 0) (es : List Entry) (b : ℕ) → Others X es b → X × (Unknown ≡ find es b)
+no_entry : (X : Type 0) (es : List Entry) (b : ℕ) → Others X es b → X × (Unknown ≡ find es b)
 unfolding find
-no-entry X [] b h = (h, refl)
-no-entry X (e ∷ es) b h =
-    let r = no-entry (X × (b ≡ code e.letter → ⊥)) es b h in
+no_entry X [] b h = (h, refl)
+no_entry X (e ∷ es) b h =
+    let r = no_entry (X × (b ≡ code e.letter → ⊥)) es b h in
     (r.0.0, rw (ne_eqb b (code e.letter) r.0.1) r.1)
 
 pub returns-in-111 : goal.returns-in-111
@@ -109,4 +109,4 @@ returns-in-66 c = sym (ap computed c.in-66.is)
 
 pub returns-in_default : goal.returns-in_default
 unfolding letter_of letters
-returns-in_default c = (no-entry (Unit {0}) letters _ c.in_default.in_default-own.rest).1
+returns-in_default c = (no_entry (Unit {0}) letters _ c.in_default.in_default-own.rest).1

@@ -1,5 +1,4 @@
 -- `cd::index` meets its contract: a case of the definition for each return.
-use borrow.Author.Rules.{rules}
 use borrow.Author.Tests.{lt-ltb, le-ltb}
 use Rattle.cd.specs.References.{index_of}
 use Rattle.cd.proofs.index.Goals as goal

@@ -1,5 +1,4 @@
 -- `cd::indices` meets its contract: the definition at what the callees answer.
-use borrow.Author.Rules.{rules}
 use Rattle.cd.specs.References.{ends_of, both_of}
 use Rattle.cd.proofs.indices.Goals as goal
 

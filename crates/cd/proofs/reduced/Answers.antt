@@ -3,14 +3,13 @@
 use mathlib.Core.Path.{◌≡◌, sym, ap, ◌∙◌}
 use Prim.Native.Nat.{◌%◌}
 use native.Mathlib.Omega.{arith}
-use borrow.Author.Rules.{rules}
-use Rattle.filing.specs.Fractions.{gcd as the-gcd, lowest}
+use Rattle.filing.specs.Fractions.{gcd as the_gcd, lowest}
 use Rattle.filing.proofs.Gcd.{gcd_one, gcd_pos, gcd_positive, lowest_divided, lowest_coprime}
 use Rattle.cd.specs.Edges.{fraction, edge_of, reduced}
 use Rattle.cd.proofs.reduced.Goals as goal
 use Rattle.cd.proofs.reduced.Goals.{After-gcd-g}
 
-divisor : (g : After-gcd-g) → g.gcd-g.result ≡ the-gcd g.args.e.num g.args.e.den
+divisor : (g : After-gcd-g) → g.gcd-g.result ≡ the_gcd g.args.e.num g.args.e.den
 divisor g = g.gcd-g.ensures ∙ sym (gcd_pos g.args.e.num g.requires)
 
 pub nonzero_div-num : goal.nonzero_div-num
@@ -33,4 +32,4 @@ unfolding reduced
 returns c =
     let e = c.args.e in
     let rest : e.num % e.den ≡ 1 = omega (arith, c.if-rest-gt1.false, c.if-rest-eq0.false) in
-    sym (ap edge_of (lowest_coprime (fraction e) (gcd_pos e.num c.requires ∙ ap (the-gcd e.den) rest ∙ gcd_one e.den)))
+    sym (ap edge_of (lowest_coprime (fraction e) (gcd_pos e.num c.requires ∙ ap (the_gcd e.den) rest ∙ gcd_one e.den)))

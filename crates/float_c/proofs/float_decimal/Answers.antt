@@ -3,7 +3,6 @@ use mathlib.Core.Path.{◌≡◌, sym, ap, ◌∙◌}
 use mir.Syntax.{w64}
 use mir.ValLaws.{to_z-of_z}
 use lib.Ieee.{of_bits, div}
-use borrow.Author.Rules.{rules}
 use Rattle.float.specs.Decimal.{decimal_of}
 use Rattle.float_c.specs.Export.{or_nan}
 use Rattle.float_c.proofs.float_decimal.Goals as goal

@@ -11,10 +11,10 @@ use Rattle.geometry.proofs.Shapes.{generator_none}
 use borrow.Author.Rules.{rules}
 use Rattle.geometry.proofs.refused_generator.Goals as goal
 
-nine-zeros : replicate limit (of_bits binary64 0) ≡ flat limit (λ i. nil)
+nine_zeros : replicate limit (of_bits binary64 0) ≡ flat limit (λ i. nil)
 unfolding flat whole of_bits
-nine-zeros = refl
+nine_zeros = refl
 
 pub returns : goal.returns
 unfolding coordinates solve
-returns c = generator_none _ _ (c.of.ensures zeros (λ i. nil) c.zeros-zeros.ensures nine-zeros)
+returns c = generator_none _ _ (c.of.ensures zeros (λ i. nil) c.zeros-zeros.ensures nine_zeros)

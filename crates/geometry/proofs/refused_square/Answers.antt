@@ -11,9 +11,9 @@ use Rattle.geometry.specs.Squares.{refused_square}
 use borrow.Author.Rules.{rules}
 use Rattle.geometry.proofs.refused_square.Goals as goal
 
-zeros-held : {e : CdError} {at : List Float} → at ≡ flat_square limit zeros → ◌≡◌ {A = Square} (record { answer = said.Refused e; at = at; count = 0 }) (refused_square e)
+zeros_held : {e : CdError} {at : List Float} → at ≡ flat_square limit zeros → ◌≡◌ {A = Square} (record { answer = said.Refused e; at = at; count = 0 }) (refused_square e)
 unfolding refused_square
-zeros-held h = rw h
+zeros_held h = rw h
 
 pub returns : goal.returns
-returns c = zeros-held c.zeros-at.ensures
+returns c = zeros_held c.zeros-at.ensures

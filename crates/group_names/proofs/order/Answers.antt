@@ -15,9 +15,9 @@ use Rattle.group_names.proofs.order.Goals as goal
 small : {x y : Name} → x ≡ y → rank x ≤ 15 → rank y ≤ 15
 small e h = subst (λ z. rank z ≤ 15) e h
 
-least-D : {x : Name} {n : ℕ} → x ≡ D n → is_name x ≡ true → 4 ≤ n
+least_D : {x : Name} {n : ℕ} → x ≡ D n → is_name x ≡ true → 4 ≤ n
 unfolding is_name
-least-D {n = n} e h = leb-true 4 n (rw e at h)
+least_D {n = n} e h = leb-true 4 n (rw e at h)
 
 pub overflow_add-n : goal.overflow_add-n
 unfolding rank
@@ -47,7 +47,7 @@ pub returns-in-D : goal.returns-in-D
 unfolding order
 returns-in-D c =
     let e = c.in-D.is in
-    rw e (ap (λ z. z / 2) c.multiples-in-D.ensures ∙ half_product _ (omega (arith, least-D e c.requires.0)))
+    rw e (ap (λ z. z / 2) c.multiples-in-D.ensures ∙ half_product _ (omega (arith, least_D e c.requires.0)))
 
 pub returns-in-E6 : goal.returns-in-E6
 unfolding order

@@ -23,8 +23,8 @@ pub judged-requires-2 : goal.judged-requires-2
 judged-requires-2 c = (omega arith, omega arith, kept_small _ _ c.take_exponent-2.ensures)
 
 -- a byte that is no point, or the end
-no-point : (c : Joined-i-t) → let i = c.take_digits-a.result.next in let t = c.args.t.now in fraction (drop i t) ≡ record { front = []; rest = drop i t }
-no-point c =
+no_point : (c : Joined-i-t) → let i = c.take_digits-a.result.next in let t = c.args.t.now in fraction (drop i t) ≡ record { front = []; rest = drop i t }
+no_point c =
     elim c.if-i-t.branch [
       | then-i-t+else-t-i-eq46 w ↦ fraction_at_other _ _ w.if-i-t.true w.if-t-i-eq46.false
       | else-i-t w ↦ fraction_at_end _ _ w.if-i-t.false
@@ -32,4 +32,4 @@ no-point c =
 
 pub returns : goal.returns
 returns c =
-    rw c.judged-2.ensures (decimal_plain _ _ _ _ c.take_digits-a.ensures _ (no-point (goal.at.returns c).Joined-i-t) c.take_exponent-2.ensures)
+    rw c.judged-2.ensures (decimal_plain _ _ _ _ c.take_digits-a.ensures _ (no_point (goal.at.returns c).Joined-i-t) c.take_exponent-2.ensures)

@@ -11,11 +11,11 @@ use Rattle.length.proofs.Powers.{difference_at_most, difference_fits, small_read
 use Rattle.length.proofs.power.Goals as goal
 use Rattle.length.proofs.power.Goals.{Start}
 
-e-reads : (c : Start) → to_z w64 c.args.e ≡ pos c.args.e
-e-reads c = small_reads _ c.requires.0
+e_reads : (c : Start) → to_z w64 c.args.e ≡ pos c.args.e
+e_reads c = small_reads _ c.requires.0
 
-f-reads : (c : Start) → to_z w64 c.args.f ≡ pos c.args.f
-f-reads c = small_reads _ c.requires.1
+f_reads : (c : Start) → to_z w64 c.args.f ≡ pos c.args.f
+f_reads c = small_reads _ c.requires.1
 
 minus_fits : (c : Start) → SFits w64 (pos 0 -ℤ pos c.args.e)
 minus_fits c = difference_fits (pos 0) _ (omega arith) c.requires.0
@@ -27,20 +27,20 @@ up_fits : (c : Start) → SFits w64 (pos c.args.e -ℤ pos c.args.f)
 up_fits c = difference_fits (pos c.args.e) _ (omega arith) c.requires.1
 
 pub overflow_sub-result : goal.overflow_sub-result
-overflow_sub-result c = rw (e-reads (goal.at.overflow_sub-result c).Start) (minus_fits (goal.at.overflow_sub-result c).Start)
+overflow_sub-result c = rw (e_reads (goal.at.overflow_sub-result c).Start) (minus_fits (goal.at.overflow_sub-result c).Start)
 
 pub overflow_sub-result-then-minus : goal.overflow_sub-result-then-minus
-overflow_sub-result-then-minus c = rw (e-reads (goal.at.overflow_sub-result-then-minus c).Start, f-reads (goal.at.overflow_sub-result-then-minus c).Start, to_z-of_z (minus_fits (goal.at.overflow_sub-result-then-minus c).Start)) (down_fits (goal.at.overflow_sub-result-then-minus c).Start)
+overflow_sub-result-then-minus c = rw (e_reads (goal.at.overflow_sub-result-then-minus c).Start, f_reads (goal.at.overflow_sub-result-then-minus c).Start, to_z-of_z (minus_fits (goal.at.overflow_sub-result-then-minus c).Start)) (down_fits (goal.at.overflow_sub-result-then-minus c).Start)
 
 pub overflow_sub-result-else-minus : goal.overflow_sub-result-else-minus
-overflow_sub-result-else-minus c = rw (e-reads (goal.at.overflow_sub-result-else-minus c).Start, f-reads (goal.at.overflow_sub-result-else-minus c).Start) (up_fits (goal.at.overflow_sub-result-else-minus c).Start)
+overflow_sub-result-else-minus c = rw (e_reads (goal.at.overflow_sub-result-else-minus c).Start, f_reads (goal.at.overflow_sub-result-else-minus c).Start) (up_fits (goal.at.overflow_sub-result-else-minus c).Start)
 
 pub returns-then-minus : goal.returns-then-minus
 unfolding power
 returns-then-minus c =
-    rw (e-reads (goal.at.returns-then-minus c).Start, f-reads (goal.at.returns-then-minus c).Start, to_z-of_z (minus_fits (goal.at.returns-then-minus c).Start), to_z-of_z (down_fits (goal.at.returns-then-minus c).Start), +ℤ_idl, c.if-minus.true)
+    rw (e_reads (goal.at.returns-then-minus c).Start, f_reads (goal.at.returns-then-minus c).Start, to_z-of_z (minus_fits (goal.at.returns-then-minus c).Start), to_z-of_z (down_fits (goal.at.returns-then-minus c).Start), +ℤ_idl, c.if-minus.true)
 
 pub returns-else-minus : goal.returns-else-minus
 unfolding power
 returns-else-minus c =
-    rw (e-reads (goal.at.returns-else-minus c).Start, f-reads (goal.at.returns-else-minus c).Start, to_z-of_z (up_fits (goal.at.returns-else-minus c).Start), c.if-minus.false)
+    rw (e_reads (goal.at.returns-else-minus c).Start, f_reads (goal.at.returns-else-minus c).Start, to_z-of_z (up_fits (goal.at.returns-else-minus c).Start), c.if-minus.false)

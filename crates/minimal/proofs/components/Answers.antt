@@ -1,5 +1,4 @@
 -- `minimal::components` meets its contract: a labelling by the marks is one by the stored edges.
-use borrow.Author.Rules.{rules}
 use Rattle.minimal.proofs.Links.{labelled_stored}
 use Rattle.minimal.proofs.components.Goals as goal
 

@@ -1,5 +1,4 @@
 -- `minimal::is_ringed` meets its contract: a case of the definition for each return.
-use borrow.Author.Rules.{rules}
 use Rattle.cd.specs.Minimal.{is_ringed}
 use Rattle.minimal.proofs.is_ringed.Goals as goal
 

@@ -1,16 +1,14 @@
 -- `minimal::labels` meets its contract. The invariant: the rows below j are met; the measure is what is left of the rows.
-use Prim.Native.Nat.{◌≤◌, ◌-◌}
 use mathlib.Core.Path.{◌≡◌}
 use native.Mathlib.Omega.{arith}
 use borrow.Author.Rules.{rules}
-use Rattle.minimal.specs.Labels.{Marked, label_in, Partway}
-use Rattle.minimal.proofs.Labelling.{up_from, label_upFrom, none_met, all_met}
+use Rattle.minimal.proofs.Labelling.{up_from, label_up_from, none_met, all_met}
 use Rattle.minimal.proofs.Links.{marked_turn}
 use Rattle.minimal.proofs.labels.Goals as goal
 
 pub loop-j-init : goal.loop-j-init
 unfolding up_from
-loop-j-init c = (search rules, none_met _ _ _ (λ k h. omega (arith, label_upFrom 0 9 k (omega arith))))
+loop-j-init c = (search rules, none_met _ _ _ (λ k h. omega (arith, label_up_from 0 9 k (omega arith))))
 
 pub row_met-next-requires : goal.row_met-next-requires
 row_met-next-requires c = (search rules, search rules, c.loop-j.invariant.1)

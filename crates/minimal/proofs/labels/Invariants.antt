@@ -1,11 +1,6 @@
 -- `minimal::labels` meets its contract. The invariant: the rows below j are met; the measure is what is left of the rows.
 use Prim.Native.Nat.{◌≤◌, ◌-◌}
-use mathlib.Core.Path.{◌≡◌}
-use native.Mathlib.Omega.{arith}
-use borrow.Author.Rules.{rules}
 use Rattle.minimal.specs.Labels.{Marked, label_in, Partway}
-use Rattle.minimal.proofs.Labelling.{up_from, label_upFrom, none_met, all_met}
-use Rattle.minimal.proofs.Links.{marked_turn}
 use Rattle.minimal.proofs.labels.Given as goal
 
 abbrev pub invariant-loop-j : goal.invariant-loop-j

@@ -2,7 +2,6 @@
 use mathlib.Core.Bool.{false, true≢false}
 use mathlib.Core.Path.{◌≡◌, sym, ◌∙◌}
 use native.Mathlib.Omega.{arith}
-use borrow.Author.Rules.{rules}
 use lib.ListN.{get_or}
 use Rattle.cd.specs.Diagrams.{place_of}
 use Rattle.minimal.specs.Labels.{Marked}

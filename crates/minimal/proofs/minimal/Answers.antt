@@ -1,15 +1,11 @@
 -- `minimal::minimal` meets its contract. The outer invariant: each label below c that is its own has a ringed node; the inner: none of the nodes below i
 -- that have the label c is ringed. The measures are what is left of the nodes.
-use Prim.Native.Nat.{ℕ, ◌≤◌, ◌<◌, ◌-◌}
-use mathlib.Core.Bool.{false}
-use mathlib.Core.Logic.{⊎_elim}
-use mathlib.Core.Path.{◌≡◌, refl, sym, ◌∙◌}
+use mathlib.Core.Path.{refl, sym, ◌∙◌}
 use native.Mathlib.Nat.{not-suc-le-zero}
 use native.Mathlib.Omega.{arith}
 use borrow.Author.Count.{below_more}
 use borrow.Author.Rules.{rules}
-use Rattle.minimal.specs.Labels.{label_in}
-use Rattle.minimal.proofs.Rings.{ringed_in, RingIn, decided_minimal, decided_not_minimal}
+use Rattle.minimal.proofs.Rings.{decided_minimal, decided_not_minimal}
 use Rattle.minimal.proofs.minimal.Goals as goal
 use Rattle.minimal.proofs.minimal.Goals.{then-of-i+else-is_ringed, else-of-i}
 

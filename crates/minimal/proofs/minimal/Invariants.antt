@@ -2,14 +2,9 @@
 -- that have the label c is ringed. The measures are what is left of the nodes.
 use Prim.Native.Nat.{ℕ, ◌≤◌, ◌<◌, ◌-◌}
 use mathlib.Core.Bool.{false}
-use mathlib.Core.Logic.{⊎_elim}
-use mathlib.Core.Path.{◌≡◌, refl, sym, ◌∙◌}
-use native.Mathlib.Nat.{not-suc-le-zero}
-use native.Mathlib.Omega.{arith}
-use borrow.Author.Count.{below_more}
-use borrow.Author.Rules.{rules}
+use mathlib.Core.Path.{◌≡◌}
 use Rattle.minimal.specs.Labels.{label_in}
-use Rattle.minimal.proofs.Rings.{ringed_in, RingIn, decided_minimal, decided_not_minimal}
+use Rattle.minimal.proofs.Rings.{ringed_in, RingIn}
 use Rattle.minimal.proofs.minimal.Given as goal
 
 abbrev pub invariant-loop-i : goal.invariant-loop-i

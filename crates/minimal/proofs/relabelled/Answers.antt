@@ -1,14 +1,12 @@
 -- `minimal::relabelled` meets its contract. The invariant: the labels below k are replaced, those from k on are as they were; the measure is what is left of 9.
 -- A turn stores at k what stands in the place of the label there.
-use Prim.Native.Nat.{◌≤◌, ◌-◌}
-use mathlib.Core.Logic.{⊎_elim}
 use mathlib.Core.Path.{◌≡◌, refl, sym, ◌∙◌}
 use native.Mathlib.Omega.{arith}
 use borrow.Author.Rules.{rules}
 use lib.ListN.{length, set}
 use lib.Seq.{set-get_or}
 use Rattle.minimal.specs.Labels.{label_in, instead}
-use Rattle.cd.proofs.Arrays.{replaced, replaced_next, get_or_replaced}
+use Rattle.cd.proofs.Arrays.{replaced_next, get_or_replaced}
 use Rattle.minimal.proofs.Labelling.{instead_yes, instead_no}
 use Rattle.minimal.proofs.relabelled.Goals as goal
 use Rattle.minimal.proofs.relabelled.Goals.{Joined-out-k, Start, then-out-k, else-out-k}

@@ -1,10 +1,6 @@
 -- `minimal::row_met` meets its contract. The invariant: of row j the pairs below i are met; the measure is what is left of the row.
 use Prim.Native.Nat.{◌≤◌, ◌-◌}
-use mathlib.Core.Path.{◌≡◌}
-use native.Mathlib.Omega.{arith}
-use borrow.Author.Rules.{rules}
 use Rattle.minimal.specs.Labels.{Marked, label_in, Partway}
-use Rattle.minimal.proofs.Labelling.{row_met}
 use Rattle.minimal.proofs.row_met.Given as goal
 
 abbrev pub invariant-loop-i : goal.invariant-loop-i

@@ -15,32 +15,32 @@ use Rattle.readback.proofs.is_pair.Goals as goal
 use Rattle.readback.proofs.is_pair.Goals.{After-edge_of-edge, After-reduced-least}
 
 -- the edge's numbers are the halves
-num-is : (o : After-edge_of-edge) → o.edge_of-edge.result.num ≡ o.args.x / 2 ^ 32
-num-is o = ap (λ (e : Edge). e.num) o.edge_of-edge.ensures
+num_is : (o : After-edge_of-edge) → o.edge_of-edge.result.num ≡ o.args.x / 2 ^ 32
+num_is o = ap (λ (e : Edge). e.num) o.edge_of-edge.ensures
 
-den-is : (o : After-edge_of-edge) → o.edge_of-edge.result.den ≡ o.args.x % 2 ^ 32
-den-is o = ap (λ (e : Edge). e.den) o.edge_of-edge.ensures
+den_is : (o : After-edge_of-edge) → o.edge_of-edge.result.den ≡ o.args.x % 2 ^ 32
+den_is o = ap (λ (e : Edge). e.den) o.edge_of-edge.ensures
 
 pub returns-then-edge-eq0 : goal.returns-then-edge-eq0
-returns-then-edge-eq0 c = decides_no (λ w. omega (arith, w.0.den_pos, den-is (goal.at.returns-then-edge-eq0 c).After-edge_of-edge, c.if-edge-eq0.true))
+returns-then-edge-eq0 c = decides_no (λ w. omega (arith, w.0.den_pos, den_is (goal.at.returns-then-edge-eq0 c).After-edge_of-edge, c.if-edge-eq0.true))
 
 pub returns-then-edge : goal.returns-then-edge
-returns-then-edge c = decides_no (λ w. omega (arith, w.0.above_one, num-is (goal.at.returns-then-edge c).After-edge_of-edge, den-is (goal.at.returns-then-edge c).After-edge_of-edge, c.if-edge.true))
+returns-then-edge c = decides_no (λ w. omega (arith, w.0.above_one, num_is (goal.at.returns-then-edge c).After-edge_of-edge, den_is (goal.at.returns-then-edge c).After-edge_of-edge, c.if-edge.true))
 
 pub reduced-least-requires : goal.reduced-least-requires
 reduced-least-requires c = omega (arith, c.if-edge-eq0.false)
 
 -- the den of lowest terms
-least-is : (c : After-reduced-least) → c.reduced-least.result.den ≡ (lowest (halves c.args.x)).den
+least_is : (c : After-reduced-least) → c.reduced-least.result.den ≡ (lowest (halves c.args.x)).den
 unfolding reduced
-least-is c = ap (λ (e : Edge). e.den) c.reduced-least.ensures ∙ ap (λ (e : Edge). (reduced e).den) c.edge_of-edge.ensures
+least_is c = ap (λ (e : Edge). e.den) c.reduced-least.ensures ∙ ap (λ (e : Edge). (reduced e).den) c.edge_of-edge.ensures
 
 pub returns : goal.returns
 returns c =
     let h = halves c.args.x in record {
       only_when = λ t. (
-        record { fits = omega arith; den_pos = omega (arith, den-is (goal.at.returns c).After-edge_of-edge, c.if-edge-eq0.false); above_one = omega (arith, num-is (goal.at.returns c).After-edge_of-edge, den-is (goal.at.returns c).After-edge_of-edge, c.if-edge.false) },
-        lowest_undivided h (omega (arith, den-is (goal.at.returns c).After-edge_of-edge, c.if-edge-eq0.false)) (sym (least-is (goal.at.returns c).After-reduced-least) ∙ eqb-true _ _ t ∙ den-is (goal.at.returns c).After-edge_of-edge),
+        record { fits = omega arith; den_pos = omega (arith, den_is (goal.at.returns c).After-edge_of-edge, c.if-edge-eq0.false); above_one = omega (arith, num_is (goal.at.returns c).After-edge_of-edge, den_is (goal.at.returns c).After-edge_of-edge, c.if-edge.false) },
+        lowest_undivided h (omega (arith, den_is (goal.at.returns c).After-edge_of-edge, c.if-edge-eq0.false)) (sym (least_is (goal.at.returns c).After-reduced-least) ∙ eqb-true _ _ t ∙ den_is (goal.at.returns c).After-edge_of-edge),
       );
-      when = λ w. eq-eqb _ _ (least-is (goal.at.returns c).After-reduced-least ∙ ap (λ x. x.den) w.1 ∙ sym (den-is (goal.at.returns c).After-edge_of-edge));
+      when = λ w. eq-eqb _ _ (least_is (goal.at.returns c).After-reduced-least ∙ ap (λ x. x.den) w.1 ∙ sym (den_is (goal.at.returns c).After-edge_of-edge));
     }

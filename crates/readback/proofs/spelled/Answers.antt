@@ -3,7 +3,7 @@
 use native.Mathlib.Omega.{arith}
 use borrow.Author.Rules.{rules}
 use Rattle.cd.specs.Diagrams.{limit, cd_of}
-use Rattle.readback.proofs.Nodes.{length_nodesTo}
+use Rattle.readback.proofs.Nodes.{length_nodes_to}
 use Rattle.readback.proofs.SpelledDiagrams.{spelled_few, spelled_nodes}
 use Rattle.readback.proofs.spelled.Goals as goal
 
@@ -24,4 +24,4 @@ pub returns : goal.returns
 unfolding cd_of
 returns c =
     let e = c.read_edges-e.ensures in
-    rw (c.read_nodes-nodes.ensures, e.pairs, e.count, length_nodesTo)
+    rw (c.read_nodes-nodes.ensures, e.pairs, e.count, length_nodes_to)

@@ -1,5 +1,4 @@
 -- `scan::grown` meets its contract: a digit is at least `0`, and the bound on `most` keeps the sum from wrapping.
-use borrow.Author.Rules.{rules}
 use Rattle.scan.specs.Bytes.{is_digit}
 use Rattle.scan.proofs.Ranges.{low_of_within}
 use Rattle.scan.proofs.grown.Goals as goal

@@ -1,5 +1,4 @@
 -- `scan::last_two` meets its contract: its arms are the definition's.
-use borrow.Author.Rules.{rules}
 use Rattle.scan.specs.Edges.{last_two}
 use Rattle.scan.proofs.last_two.Goals as goal
 

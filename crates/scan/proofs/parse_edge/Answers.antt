@@ -1,13 +1,9 @@
 -- `scan::parse_edge` meets its contract. The invariant: the run from here on, with the parts so far, reads what the run from `at` on reads; a value kept up to
 -- 2 ^ 32 is enough for that, and each turn is the run's law at the byte's sort. The measure is what is left of the length.
-use Prim.Native.Nat.{◌≤◌, ◌<◌, ◌-◌, ◌^◌}
-use mathlib.Core.Path.{◌≡◌, sym, ap, ◌∙◌}
+use mathlib.Core.Path.{sym, ap, ◌∙◌}
 use native.Mathlib.Omega.{arith}
-use lib.ListN.{length, drop}
 use borrow.Author.Rules.{rules}
-use Rattle.scan.specs.Edges.{empty, run}
 use Rattle.scan.specs.Kept.{kept}
-use Rattle.scan.specs.declared.Before.TheVariants.{Nothing}
 use Rattle.scan.proofs.Runs.{run_at_digit, run_at_slash, run_at_slash_refused, run_at_terminator, run_at_terminator_refused, run_at_other, run_at_end, closes_small, digit_of_sort}
 use Rattle.scan.proofs.parse_edge.Goals as goal
 

@@ -1,6 +1,5 @@
 -- `scan::rational` meets its contract: `is_edge` decides as the definition does, and the den of what it takes is above 0.
 use mathlib.Core.Path.{sym, ◌∙◌}
-use borrow.Author.Rules.{rules}
 use Rattle.cd.proofs.LowestTerms.{den_positive}
 use Rattle.scan.specs.Edges.{edge}
 use Rattle.scan.specs.Kept.{kept}

@@ -1,11 +1,9 @@
 -- `scan::skip_whitespace` meets its contract. The invariant: skipping from here leads where skipping from `at` leads. The measure is what is left of the length.
 --
 use Prim.Native.Nat.{◌≤◌, ◌-◌}
-use mathlib.Core.Path.{◌≡◌, sym, ◌∙◌}
+use mathlib.Core.Path.{◌≡◌}
 use lib.ListN.{length, drop}
-use borrow.Author.Rules.{rules}
 use Rattle.scan.specs.Spaces.{skip}
-use Rattle.scan.proofs.Spaces.{skip_at_space, skip_at_other, skip_at_end}
 use Rattle.scan.proofs.skip_whitespace.Given as goal
 
 abbrev pub invariant-loop-i : goal.invariant-loop-i

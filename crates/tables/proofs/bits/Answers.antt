@@ -14,14 +14,14 @@ use Rattle.tables.proofs.bits.Goals as goal
 required : {n : Node} (m : Node) → n ≡ m → IsNumber n → IsNumber m
 required m e h = rw e at h
 
-not-nan : (v : Float) → is_nan v ≡ false → T (not (is_nan v))
-not-nan v e = rw e tt
+not_nan : (v : Float) → is_nan v ≡ false → T (not (is_nan v))
+not_nan v e = rw e tt
 
 pub float_to_bits-result : goal.float_to_bits-result
-float_to_bits-result c = not-nan _ (required (Ringed _) c.in-Ringed.is c.requires)
+float_to_bits-result c = not_nan _ (required (Ringed _) c.in-Ringed.is c.requires)
 
 pub float_to_bits-result-in-Snub : goal.float_to_bits-result-in-Snub
-float_to_bits-result-in-Snub c = not-nan _ (required (Snub _) c.in-Snub.is c.requires)
+float_to_bits-result-in-Snub c = not_nan _ (required (Snub _) c.in-Snub.is c.requires)
 
 pub returns-in-Unringed : goal.returns-in-Unringed
 unfolding filed

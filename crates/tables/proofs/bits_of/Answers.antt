@@ -1,15 +1,11 @@
 -- `tables::bits_of` meets its contract. The invariant: the bits below i are those of the nodes; the measure is what is left of 9.
-use Prim.Native.Nat.{ℕ, ◌-◌, ◌≤◌}
-use mathlib.Core.List.{map}
 use mathlib.Core.Path.{◌≡◌, refl}
 use native.Mathlib.Omega.{arith}
 use borrow.Author.Rules.{rules}
-use lib.ListN.{length, take}
+use lib.ListN.{length}
 use Rattle.cd.specs.Diagrams.{limit, place}
 use Rattle.cd.specs.declared.Node.TheVariants.{Unringed}
-use Rattle.cd.specs.declared.Place.{Place}
 use Rattle.cd.proofs.Arrays.{length_of_image, filled_next, filled_all}
-use Rattle.tables.specs.Diagrams.{filed}
 use Rattle.tables.proofs.bits_of.Goals as goal
 use Rattle.tables.proofs.bits_of.Goals.{Start}
 use Rattle.tables.proofs.bits_of.Invariants.{told}

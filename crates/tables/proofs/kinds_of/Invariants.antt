@@ -1,14 +1,10 @@
 -- `tables::kinds_of` meets its contract. The invariant: the kinds below i are those of the nodes; the measure is what is left of 9.
 use Prim.Native.Nat.{ℕ, ◌-◌, ◌≤◌}
 use mathlib.Core.List.{map}
-use mathlib.Core.Path.{◌≡◌, refl}
-use native.Mathlib.Omega.{arith}
-use borrow.Author.Rules.{rules}
+use mathlib.Core.Path.{◌≡◌}
 use lib.ListN.{length, take}
-use Rattle.cd.specs.Diagrams.{limit, place}
-use Rattle.cd.specs.declared.Node.TheVariants.{Unringed}
+use Rattle.cd.specs.Diagrams.{limit}
 use Rattle.cd.specs.declared.Place.{Place}
-use Rattle.cd.proofs.Arrays.{length_of_image, filled_next, filled_all}
 use Rattle.tables.specs.Diagrams.{filed}
 use Rattle.tables.proofs.kinds_of.Given as goal
 

@@ -1,6 +1,5 @@
 -- `tables::of` meets its contract: what its tables hold is a law of `proofs/Held.antt`.
 use mathlib.Core.Path.{refl}
-use borrow.Author.Rules.{rules}
 use mir.Syntax.{w8, w64}
 use Rattle.tables.proofs.Elements.{below}
 use Rattle.tables.proofs.Held.{tables_hold}

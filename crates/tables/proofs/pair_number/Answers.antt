@@ -1,6 +1,5 @@
 -- `tables::pair_number` meets its contract: the test is that of the definition, and 64 bits hold both numbers.
 use mathlib.Core.Path.{sym}
-use borrow.Author.Rules.{rules}
 use Rattle.tables.specs.Tables.{spelt}
 use Rattle.tables.proofs.Held.{number_of_nothing, number_of_edge}
 use Rattle.tables.proofs.pair_number.Goals as goal

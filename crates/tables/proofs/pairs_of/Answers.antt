@@ -1,15 +1,12 @@
 -- `tables::pairs_of` meets its contract. The invariant: at each place below k stands the number of its pair; the measure is what is left of the rows.
-use Prim.Native.Nat.{ℕ, ◌+◌, ◌-◌, ◌*◌, ◌/◌, ◌%◌, ◌≤◌, ◌<◌}
-use mathlib.Core.List.{List}
+use Prim.Native.Nat.{◌+◌, ◌*◌, ◌/◌, ◌%◌}
 use mathlib.Core.Path.{◌≡◌, ap, ◌∙◌}
 use native.Mathlib.Numerals.{add-one}
 use native.Mathlib.Omega.{arith}
 use borrow.Author.Rules.{rules}
-use lib.ListN.{length, get_or, set}
+use lib.ListN.{get_or, set}
 use lib.Seq.{get_or-set_same, get_or-set_other}
-use Rattle.cd.specs.Diagrams.{limit, none, place_of}
-use Rattle.cd.specs.declared.Pair.{Pair}
-use Rattle.filing.specs.Numberings.{at}
+use Rattle.cd.specs.Diagrams.{limit, none}
 use Rattle.filing.proofs.Bytes.{one_more}
 use Rattle.tables.specs.Tables.{pair_number}
 use Rattle.tables.proofs.pairs_of.Goals as goal

@@ -5,10 +5,9 @@ use native.Mathlib.Nat.{mul-le-mul, lt_of_le_of_lt, lt_irrefl}
 use native.Mathlib.Numerals.{sub-one}
 use native.Mathlib.Omega.{arith}
 use lib.Dec.{lit<}
-use lib.Ieee.{Float, of_bits, binary64, of_int}
-use borrow.Author.Rules.{rules}
+use lib.Ieee.{Float, of_bits, binary64}
 use Rattle.float.specs.Numbers.{whole, ◌-ᶠ◌, ◌*ᶠ◌, ◌/ᶠ◌}
-use Rattle.float.specs.Cosine.{step, steps, cos_of}
+use Rattle.float.specs.Cosine.{steps, cos_of}
 use Rattle.float.proofs.cosine.fcos.Goals as goal
 
 one : of_bits binary64 0x3ff0_0000_0000_0000 ≡ whole 1

@@ -1,7 +1,7 @@
 -- `float::decimal::in_range` meets its contract.
-use mathlib.Core.Path.{◌≡◌, sym}
-use mathlib.Core.Bool.{Bool, true, false, ◌&&◌}
-use lib.IntN.{negsuc, pos}
+use mathlib.Core.Path.{◌≡◌}
+use mathlib.Core.Bool.{true, false}
+use lib.IntN.{negsuc}
 use lib.Signed.{le_z}
 use mir.Facts.{to_z-of_z}
 use Rattle.float.specs.Decimal.{in_range}

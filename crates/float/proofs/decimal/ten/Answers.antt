@@ -2,7 +2,6 @@
 use Prim.Native.Nat.{ℕ, ◌^◌}
 use native.Mathlib.Omega.{arith}
 use lib.Ieee.{nan, of_bits}
-use borrow.Author.Rules.{rules}
 use Rattle.float.specs.Numbers.{whole}
 use Rattle.float.proofs.Table.{entry}
 use Rattle.float.proofs.decimal.ten.Goals as goal

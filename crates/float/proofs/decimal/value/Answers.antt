@@ -1,13 +1,13 @@
 -- `float::decimal::value` meets its contract.
-use mathlib.Core.Path.{◌≡◌, ap, ◌∙◌}
+use mathlib.Core.Path.{◌≡◌}
 use mathlib.Core.Bool.{true, false}
 use Prim.Native.Nat.{◌^◌}
 use lib.Dec.{le→leb}
-use lib.IntN.{ℤ, pos}
+use lib.IntN.{pos}
 use lib.Signed.{le_z}
 use lib.Ieee.{in_float}
 use mir.Facts.{to_z-of_z}
-use Rattle.float.specs.Numbers.{whole, ◌*ᶠ◌, ◌/ᶠ◌}
+use Rattle.float.specs.Numbers.{whole}
 use Rattle.float.proofs.Powers.{size, up_size, up_value, minus_fits, down_size, down_cast, down_value}
 use Rattle.float.proofs.decimal.value.Goals as goal
 use Rattle.float.proofs.decimal.value.Goals.{Else-p-ge0, Then-p-ge0}

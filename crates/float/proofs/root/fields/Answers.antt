@@ -1,5 +1,4 @@
 -- `float::root::fields` meets its contract.
-use borrow.Author.Rules.{rules}
 use Rattle.float.proofs.Steps.{low_field, high_field}
 use Rattle.float.proofs.root.fields.Goals as goal
 

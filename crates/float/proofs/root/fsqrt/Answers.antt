@@ -1,8 +1,7 @@
 -- `float::root::fsqrt` meets its contract: each way's answer is a fact of `proofs/Values.antt`.
-use mathlib.Core.Path.{◌≡◌, refl, sym, ap, ◌∙◌, subst}
-use Prim.Native.Nat.{ℕ}
+use mathlib.Core.Path.{sym, ap, ◌∙◌, subst}
 use lib.Dec.{T}
-use lib.Ieee.{Float, binary64, fits, of_bits}
+use lib.Ieee.{binary64, fits, of_bits}
 use Rattle.float.proofs.Values.{no_nan, bits_positive, pattern_ok, at_finite, at_infinite, at_zeros, at_others}
 use Rattle.float.proofs.root.fsqrt.Goals as goal
 use Rattle.float.proofs.root.fsqrt.Goals.{Start}

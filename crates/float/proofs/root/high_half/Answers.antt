@@ -1,7 +1,6 @@
 -- `float::root::high_half` meets its contract.
 use Prim.Native.Nat.{◌-◌}
 use native.Mathlib.Omega.{arith}
-use borrow.Author.Rules.{rules}
 use Rattle.float.proofs.Halves.{square_fits, root_positive}
 use Rattle.float.proofs.root.high_half.Goals as goal
 

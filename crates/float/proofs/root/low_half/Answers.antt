@@ -2,7 +2,6 @@
 use Prim.Native.Nat.{◌*◌, ◌/◌, ◌%◌, ◌^◌, ◌≤◌, ◌<◌}
 use native.Mathlib.Nat.{mul-le-mul, mod-lt}
 use native.Mathlib.Omega.{arith}
-use borrow.Author.Rules.{rules}
 use Rattle.float.proofs.Halves.{low_size, quotient_reached, quotient_passed}
 use Rattle.float.proofs.root.low_half.Goals as goal
 use Rattle.float.proofs.root.low_half.Goals.{Start}

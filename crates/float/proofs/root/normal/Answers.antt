@@ -1,6 +1,6 @@
 -- `float::root::normal` meets its contract. The invariant: m is m0 moved up by as many places as a has come down.
-use mathlib.Core.Path.{◌≡◌, refl, sym, ap, ◌∙◌}
-use Prim.Native.Nat.{ℕ, ◌+◌, ◌-◌, ◌*◌, ◌^◌, ◌≤◌, ◌<◌}
+use mathlib.Core.Path.{sym, ap, ◌∙◌}
+use Prim.Native.Nat.{ℕ, ◌*◌, ◌^◌, ◌<◌}
 use native.Mathlib.Nat.{mul-one, sub_self}
 use native.Mathlib.Omega.{arith}
 use Rattle.float.proofs.Steps.{above_zero, moved, same_number}

@@ -1,11 +1,10 @@
 -- `float::root::root_bits` meets its contract.
-use mathlib.Core.Path.{◌≡◌, ◌∙◌}
+use mathlib.Core.Path.{◌∙◌}
 use Prim.Native.Nat.{◌+◌, ◌-◌, ◌*◌, ◌%◌, ◌^◌, ◌≤◌, ◌<◌}
 use native.Mathlib.Nat.{lt_of_le_of_lt}
 use native.Mathlib.Omega.{arith}
 use Rattle.float.specs.Root.{units}
 use Rattle.float.proofs.Nearest.{radicand_high, digits_high, in_range_lem, found}
-use borrow.Author.Rules.{rules}
 use Rattle.float.proofs.root.root_bits.Goals as goal
 use Rattle.float.proofs.root.root_bits.Goals.{After-whole_root-r}
 

@@ -1,8 +1,6 @@
 -- `float::root::root_by_digits` meets its contract. The invariant: the radicand's digits so far are root * root + rest, those left stand in `left`, at the top of the word.
-use mathlib.Core.Path.{◌≡◌, refl, sym, ap, ◌∙◌}
-use Prim.Native.Nat.{ℕ, ◌+◌, ◌-◌, ◌*◌, ◌/◌, ◌%◌, ◌^◌, ◌≤◌, ◌<◌}
-use native.Mathlib.Omega.{arith}
-use Rattle.float.proofs.Steps.{turn, next_power, longer, under, whole}
+use mathlib.Core.Path.{◌≡◌}
+use Prim.Native.Nat.{◌+◌, ◌-◌, ◌*◌, ◌^◌, ◌≤◌, ◌<◌}
 use Rattle.float.proofs.root.root_by_digits.Given as goal
 
 abbrev pub invariant-loop-i : goal.invariant-loop-i

@@ -1,6 +1,5 @@
 -- `float::root::whole_root` meets its contract: the two tests are what the low half requires of the high one.
 use native.Mathlib.Omega.{arith}
-use borrow.Author.Rules.{rules}
 use Rattle.float.proofs.root.whole_root.Goals as goal
 
 pub low_half-requires : goal.low_half-requires
