@@ -83,12 +83,14 @@ def table(top):
 
 
 def turned_here(text, turned):
-    """Without the names that this file takes from a library."""
+    """With the names that this file gives what it takes, and without those that it takes from a library."""
     theirs = set()
     for m in re.finditer(r"\buse ([^\s;{]+)\.\{([^}]*)\}", text):
         if not m[1].startswith("Rattle.") or m[1].split(".")[1] in ("std", "core"):
             theirs |= set(re.findall(NAME, m[2]))
-    return {a: b for a, b in turned.items() if a not in theirs}
+    given = re.findall(r" as (%s)" % NAME, " ".join(m[0] for m in re.finditer(r"\buse [^;{\n]*(?:\{[^}]*\})?", text)))
+    own = {a: snake(a) for a in given if (is_camel(a) or is_dashed(a)) and snake(a) not in re.findall(NAME, text)}
+    return {a: b for a, b in turned.items() if a not in theirs} | own
 
 
 def turn(text, turned, labels):

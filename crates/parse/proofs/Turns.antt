@@ -27,7 +27,7 @@ use Rattle.cd.proofs.Arrays.{length_padded, set_padded}
 use Rattle.cd.proofs.LowestTerms.{reduced_num_positive}
 use Rattle.scan.specs.Spaces.{skip}
 use Rattle.scan.specs.Edges.{edge_at}
-use Rattle.scan.specs.Kept.{kept as kept_read}
+use Rattle.scan.specs.Kept.{kept as the_kept}
 use Rattle.scan.specs.declared.EdgeRead.{EdgeRead}
 use Rattle.scan.specs.declared.EdgeRead.TheVariants as edge
 use Rattle.scan.proofs.Places.{edge_next, edge_valid}
@@ -269,7 +269,7 @@ module _ {wish : Bool} {s : List ℕ} {start at : ℕ} {nodes : List Place} {cou
   m : next < length s → More wish a.left s next read_so_far
   m inside = more wish a.left s next read_so_far inside a.enough
 
-  module _ (inside : next < length s) (x : EdgeRead) (read : x ≡ kept_read (edge_at s next)) where
+  module _ (inside : next < length s) (x : EdgeRead) (read : x ≡ the_kept (edge_at s next)) where
     turning : (y : EdgeRead) → edge_at s next ≡ y → onto (after_edge wish y s next read_so_far) (turns wish (m inside).less s) ≡ text_from wish s start
     unfolding turn
     turning y h = ap (λ (z : EdgeRead). onto (after_edge wish z s next read_so_far) (turns wish (m inside).less s)) (sym h) ∙ sym (m inside).is ∙ a.turned

@@ -3,12 +3,11 @@
 use mathlib.Core.Path.{◌≡◌}
 use native.Mathlib.Nat.{not-suc-le-zero}
 use native.Mathlib.Omega.{arith}
-use Prim.Native.Nat.{◌+◌, ◌-◌, ◌*◌, ◌^◌, ◌≤◌, ◌<◌}
-use lib.ListN.{length, length-set}
+use Prim.Native.Nat.{◌+◌, ◌*◌, ◌^◌, ◌<◌}
+use lib.ListN.{length-set}
 use Rattle.cd.specs.Diagrams.{limit}
 use Rattle.filing.specs.Numberings.{at}
-use Rattle.blocks.specs.Blocks.{base, packed, Keyed}
-use Rattle.filing.specs.Sequences.{Agree}
+use Rattle.blocks.specs.Blocks.{base}
 use Rattle.blocks.specs.Ranks.{table}
 use Rattle.blocks.proofs.Blocks as blocks
 use Rattle.blocks.proofs.Rows.{row_more}

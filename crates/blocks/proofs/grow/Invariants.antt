@@ -1,17 +1,13 @@
 -- `blocks::grow` meets its contract. The invariant: the nodes below w have their blocks at place j + 1, and the rows up to place j are as they were; the measure is what is
 -- left of the nodes. A block of place j has at most seven digits, so that one more fits.
 use mathlib.Core.Path.{◌≡◌}
-use native.Mathlib.Nat.{not-suc-le-zero}
-use native.Mathlib.Omega.{arith}
-use Prim.Native.Nat.{◌+◌, ◌-◌, ◌*◌, ◌^◌, ◌≤◌, ◌<◌}
-use lib.ListN.{length, length-set}
+use Prim.Native.Nat.{◌+◌, ◌-◌, ◌*◌, ◌≤◌}
+use lib.ListN.{length}
 use Rattle.cd.specs.Diagrams.{limit}
 use Rattle.filing.specs.Numberings.{at}
-use Rattle.blocks.specs.Blocks.{base, packed, Keyed}
+use Rattle.blocks.specs.Blocks.{packed, Keyed}
 use Rattle.filing.specs.Sequences.{Agree}
 use Rattle.blocks.specs.Ranks.{table}
-use Rattle.blocks.proofs.Blocks as blocks
-use Rattle.blocks.proofs.Rows.{row_more}
 use Rattle.blocks.proofs.grow.Given as goal
 
 abbrev pub invariant-loop-w : goal.invariant-loop-w

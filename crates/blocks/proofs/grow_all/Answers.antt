@@ -1,11 +1,10 @@
 -- `blocks::grow_all` meets its contract. The invariant: the blocks up to place j are there; the measure is what is left of n.
 use mathlib.Core.Path.{◌≡◌}
 use native.Mathlib.Omega.{arith}
-use Prim.Native.Nat.{ℕ, ◌-◌, ◌*◌, ◌≤◌}
-use lib.ListN.{length, length-replicate}
+use Prim.Native.Nat.{ℕ, ◌*◌}
+use lib.ListN.{length-replicate}
 use Rattle.cd.specs.Diagrams.{limit}
 use Rattle.filing.specs.Numberings.{at}
-use Rattle.blocks.specs.Blocks.{Keyed}
 use Rattle.blocks.specs.Ranks.{table}
 use Rattle.blocks.proofs.Blocks.{keyed_none}
 use Rattle.blocks.proofs.grow_all.Goals as goal

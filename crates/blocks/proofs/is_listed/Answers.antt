@@ -1,7 +1,5 @@
 -- `blocks::is_listed` meets its contract: where the loop returns, the number stands. The measure is what is left of m.
 use mathlib.Core.Bool.{false≢true}
-use native.Mathlib.Omega.{arith}
-use Prim.Native.Nat.{◌-◌, ◌≤◌}
 use Rattle.blocks.proofs.is_listed.Goals as goal
 
 pub returns-then-list-i : goal.returns-then-list-i

@@ -1,6 +1,4 @@
 -- `blocks::is_listed` meets its contract: where the loop returns, the number stands. The measure is what is left of m.
-use mathlib.Core.Bool.{false≢true}
-use native.Mathlib.Omega.{arith}
 use Prim.Native.Nat.{◌-◌, ◌≤◌}
 use Rattle.blocks.proofs.is_listed.Given as goal
 

@@ -1,13 +1,10 @@
 -- `blocks::list_all` meets its contract. The invariant: the list has the numbers of the rows below u; the measure is what is left of the rows.
-use borrow.Author.Count.{below_more}
 use mathlib.Core.Path.{◌≡◌}
-use native.Mathlib.Nat.{not-suc-le-zero}
-use native.Mathlib.Omega.{arith}
 use Prim.Native.Nat.{ℕ, ◌-◌, ◌*◌, ◌≤◌, ◌<◌}
 use lib.ListN.{length}
 use Rattle.cd.specs.Diagrams.{limit}
 use Rattle.blocks.specs.Ranks.{table}
-use Rattle.blocks.proofs.Ranking.{Lists, lists_longer}
+use Rattle.blocks.proofs.Ranking.{Lists}
 use Rattle.blocks.proofs.list_all.Given as goal
 
 abbrev pub invariant-loop-u : goal.invariant-loop-u

@@ -1,18 +1,14 @@
 -- `blocks::list_row` meets its contract. The invariant: the list has the row's numbers below v, the first m places are as they were; the measure is what is left of the
 -- row.
 use borrow.Author.Tests.{not-false}
-use mathlib.Core.Logic.{⊎_elim}
-use mathlib.Core.Path.{◌≡◌, refl, ◌∙◌}
+use mathlib.Core.Path.{refl, ◌∙◌}
 use native.Mathlib.Nat.{not-suc-le-zero}
 use native.Mathlib.Omega.{arith}
-use Prim.Native.Nat.{◌+◌, ◌-◌, ◌*◌, ◌≤◌}
-use lib.ListN.{length, length-set}
+use lib.ListN.{length-set}
 use Rattle.cd.specs.Diagrams.{limit}
-use Rattle.filing.specs.Numberings.{at}
-use Rattle.filing.specs.Sequences.{Agree}
 use Rattle.blocks.specs.Ranks.{table}
 use Rattle.filing.proofs.Sequences.{agree_trans}
-use Rattle.blocks.proofs.Ranking.{Lists, lists_found, lists_written}
+use Rattle.blocks.proofs.Ranking.{lists_found, lists_written}
 use Rattle.blocks.proofs.Rows.{set_past}
 use Rattle.blocks.proofs.list_row.Goals as goal
 use Rattle.blocks.proofs.list_row.Goals.{then-not-is_listed, else-not-is_listed}

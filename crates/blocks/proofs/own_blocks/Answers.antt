@@ -1,12 +1,7 @@
 -- `blocks::own_blocks` meets its contract. The invariant: the places below i have their blocks; the measure is what is left of n.
-use mathlib.Core.Path.{◌≡◌}
 use native.Mathlib.Nat.{not-suc-le-zero}
 use native.Mathlib.Omega.{arith}
-use Prim.Native.Nat.{◌+◌, ◌-◌, ◌*◌, ◌≤◌}
-use lib.ListN.{length, length-set}
-use Rattle.cd.specs.Diagrams.{limit}
-use Rattle.filing.specs.Numberings.{at}
-use Rattle.filing.specs.Sequences.{Agree}
+use lib.ListN.{length-set}
 use Rattle.blocks.proofs.Rows.{filled_more}
 use Rattle.blocks.proofs.own_blocks.Goals as goal
 

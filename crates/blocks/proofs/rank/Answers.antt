@@ -1,8 +1,7 @@
 -- `blocks::rank` meets its contract. The invariant: `lower` of the first i numbers are below x; the measure is what is left of m.
-use mathlib.Core.Logic.{⊎_elim}
 use mathlib.Core.Path.{◌≡◌, refl, ap, sym, ◌∙◌}
 use native.Mathlib.Omega.{arith}
-use Prim.Native.Nat.{◌+◌, ◌-◌, ◌≤◌}
+use Prim.Native.Nat.{◌+◌}
 use Rattle.blocks.specs.Ranks.{below}
 use Rattle.blocks.proofs.Ranking.{below_counted, below_passed}
 use Rattle.blocks.proofs.rank.Goals as goal

@@ -1,15 +1,13 @@
 -- `blocks::rank_row` meets its contract. The invariant: the row has its ranks below v, the rows before it are as they were, and all numbers are below the base; the
 -- measure is what is left of the row.
-use mathlib.Core.Path.{◌≡◌, refl, ap, ◌∙◌}
+use mathlib.Core.Path.{refl, ap, ◌∙◌}
 use native.Mathlib.Nat.{not-suc-le-zero}
 use native.Mathlib.Omega.{arith}
-use Prim.Native.Nat.{ℕ, ◌+◌, ◌-◌, ◌*◌, ◌≤◌, ◌<◌}
-use lib.ListN.{length, length-set}
+use Prim.Native.Nat.{◌+◌, ◌*◌}
+use lib.ListN.{length-set}
 use Rattle.cd.specs.Diagrams.{limit}
-use Rattle.filing.specs.Numberings.{at}
 use Rattle.blocks.specs.Blocks.{base}
-use Rattle.filing.specs.Sequences.{Agree}
-use Rattle.blocks.specs.Ranks.{table, below}
+use Rattle.blocks.specs.Ranks.{below}
 use Rattle.filing.proofs.Sequences.{agree_trans}
 use Rattle.blocks.proofs.Rows.{set_past, set_low, row_more}
 use Rattle.blocks.proofs.rank_row.Goals as goal

@@ -1,16 +1,14 @@
 -- `blocks::ranks` meets its contract. The invariant: the rows below u have their ranks, and all numbers are below the base; the measure is what is left of the rows. The
 -- list has the numbers of all pairs, so ranks stand as they do.
 use borrow.Author.Count.{below_more}
-use mathlib.Core.Path.{◌≡◌, ◌∙◌}
+use mathlib.Core.Path.{◌∙◌}
 use native.Mathlib.Nat.{not-suc-le-zero}
 use native.Mathlib.Omega.{arith}
-use Prim.Native.Nat.{ℕ, ◌+◌, ◌-◌, ◌*◌, ◌≤◌, ◌<◌}
-use lib.ListN.{length, length-replicate}
+use Prim.Native.Nat.{ℕ, ◌+◌, ◌*◌}
+use lib.ListN.{length-replicate}
 use Rattle.cd.specs.Diagrams.{limit}
-use Rattle.filing.specs.Numberings.{at}
 use Rattle.blocks.specs.Blocks.{base}
-use Rattle.filing.specs.Sequences.{Agree}
-use Rattle.blocks.specs.Ranks.{table, below}
+use Rattle.blocks.specs.Ranks.{table}
 use Rattle.blocks.proofs.Ranking.{ranked}
 use Rattle.blocks.proofs.Rows.{zeros_low}
 use Rattle.blocks.proofs.ranks.Goals as goal

@@ -1,11 +1,8 @@
 -- `cox::dot` meets its contract. The invariant: s is the sum of the first r products.
-use mathlib.Core.Path.{◌≡◌, ap, ◌∙◌}
+use mathlib.Core.Path.{◌≡◌}
 use Prim.Native.Nat.{◌-◌, ◌≤◌}
-use native.Mathlib.Omega.{arith}
-use lib.Ieee.{nan}
 use Rattle.cd.specs.Diagrams.{limit}
 use Rattle.cox.specs.Squares.{Square, flat_square, dot}
-use Rattle.cox.proofs.Sums.{zero_literal, dot_none, dot_more, entry_read}
 use Rattle.cox.proofs.dot.Given as goal
 
 abbrev pub invariant-loop-r : goal.invariant-loop-r

@@ -1,5 +1,4 @@
 -- `cox::entry` meets its contract: the test of the definition is the code's.
-use borrow.Author.Rules.{rules}
 use borrow.Author.Tests.{eq-eqb, ne_eqb}
 use Rattle.cox.specs.Shown.{entries}
 use Rattle.cox.proofs.Sums.{one_literal}

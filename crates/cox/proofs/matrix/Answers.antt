@@ -1,10 +1,8 @@
 -- `cox::matrix` meets its contract. The invariant: the first c columns are the entries by the places of their pairs; the measure is what is left of them. Those
 -- entries are the matrix's.
 use mathlib.Core.List.{map}
-use mathlib.Core.Path.{◌≡◌, refl, ap, ap₂, ◌∙◌}
-use Prim.Native.Nat.{◌-◌, ◌≤◌}
+use mathlib.Core.Path.{refl, ap₂, ◌∙◌}
 use native.Mathlib.Omega.{arith}
-use borrow.Author.Rules.{rules}
 use Rattle.cd.specs.Diagrams.{limit}
 use Rattle.cd.proofs.Stored.{count_held}
 use Rattle.cox.specs.Matrix.{matrix}

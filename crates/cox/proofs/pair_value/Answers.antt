@@ -1,5 +1,4 @@
 -- `cox::pair_value` meets its contract: the test of the definition is the code's.
-use borrow.Author.Rules.{rules}
 use borrow.Author.Tests.{eq-eqb, ne_eqb}
 use Rattle.float.specs.Numbers.{whole}
 use Rattle.cox.specs.Matrix.{quotient}

@@ -1,12 +1,9 @@
 -- `cox::pair_values` meets its contract. The invariant: the first k values are those of their pairs; the measure is what is left of the pairs.
 use mathlib.Core.List.{map}
-use mathlib.Core.Path.{◌≡◌, refl}
+use mathlib.Core.Path.{◌≡◌}
 use Prim.Native.Nat.{◌-◌, ◌≤◌}
-use native.Mathlib.Omega.{arith}
-use borrow.Author.Rules.{rules}
 use lib.ListN.{length, take}
-use Rattle.cd.specs.Diagrams.{none, pair_limit}
-use Rattle.cd.proofs.Arrays.{filled_next, filled_all}
+use Rattle.cd.specs.Diagrams.{pair_limit}
 use Rattle.cox.specs.Shown.{pair_value}
 use Rattle.cox.proofs.pair_values.Given as goal
 

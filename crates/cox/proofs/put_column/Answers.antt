@@ -1,11 +1,11 @@
 -- `cox::put_column` meets its contract. The invariant: the first r rows of the column are put; the measure is what is left of them.
-use mathlib.Core.Path.{◌≡◌, ap, ap₂, ◌∙◌}
-use Prim.Native.Nat.{◌+◌, ◌-◌, ◌*◌, ◌≤◌}
+use mathlib.Core.Path.{ap, ap₂, ◌∙◌}
+use Prim.Native.Nat.{◌+◌, ◌*◌}
 use native.Mathlib.Omega.{arith}
 use lib.ListN.{set}
 use Rattle.cd.specs.Diagrams.{limit}
 use Rattle.cox.specs.Shown.{entries, put_column}
-use Rattle.cox.specs.Squares.{Square, flat_square}
+use Rattle.cox.specs.Squares.{flat_square}
 use Rattle.cox.proofs.Columns.{column_none, column_more}
 use Rattle.cox.proofs.put_column.Goals as goal
 

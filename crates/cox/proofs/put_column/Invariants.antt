@@ -1,12 +1,9 @@
 -- `cox::put_column` meets its contract. The invariant: the first r rows of the column are put; the measure is what is left of them.
-use mathlib.Core.Path.{◌≡◌, ap, ap₂, ◌∙◌}
-use Prim.Native.Nat.{◌+◌, ◌-◌, ◌*◌, ◌≤◌}
-use native.Mathlib.Omega.{arith}
-use lib.ListN.{set}
+use mathlib.Core.Path.{◌≡◌}
+use Prim.Native.Nat.{◌-◌, ◌≤◌}
 use Rattle.cd.specs.Diagrams.{limit}
 use Rattle.cox.specs.Shown.{entries, put_column}
 use Rattle.cox.specs.Squares.{Square, flat_square}
-use Rattle.cox.proofs.Columns.{column_none, column_more}
 use Rattle.cox.proofs.put_column.Given as goal
 
 abbrev pub invariant-loop-r : goal.invariant-loop-r

@@ -1,5 +1,4 @@
 -- `generator::coordinates` meets its contract: a case of the definition for each.
-use borrow.Author.Rules.{rules}
 use Rattle.generator.specs.TrueDistances.{coordinates}
 use Rattle.generator.proofs.coordinates.Goals as goal
 

@@ -1,16 +1,12 @@
 -- `generator::first_infinite` meets its contract. The invariant: the first infinite value from i on is the whole answer; the measure is what is left of n.
 use mathlib.Core.List.{List}
-use mathlib.Core.Path.{◌≡◌, refl, sym, ap, ◌∙◌}
+use mathlib.Core.Path.{◌≡◌}
 use Prim.Native.Nat.{◌-◌, ◌≤◌}
-use native.Mathlib.Omega.{arith}
-use lib.Ieee.{nan}
 use lib.ListN.{length, drop}
 use Rattle.cd.specs.Diagrams.{limit}
 use Rattle.cd.specs.declared.Node.{Node}
 use Rattle.cox.specs.Squares.{flat}
-use Rattle.generator.specs.Generator.{values, is_infinite, first_infinite}
-use Rattle.generator.proofs.Infinite.{first_here, first_later, first_none}
-use Rattle.generator.proofs.Rows.{row_read}
+use Rattle.generator.specs.Generator.{values, first_infinite}
 use Rattle.generator.proofs.first_infinite.Given as goal
 
 abbrev pub invariant-loop-i : goal.invariant-loop-i

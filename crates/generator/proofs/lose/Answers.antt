@@ -1,10 +1,9 @@
 -- `generator::lose` meets its contract. The invariant: the first r coordinates have lost; the measure is what is left of i.
-use mathlib.Core.Path.{◌≡◌, ap, ◌∙◌}
-use Prim.Native.Nat.{ℕ, ◌-◌, ◌≤◌}
+use mathlib.Core.Path.{ap, ◌∙◌}
 use native.Mathlib.Omega.{arith}
-use lib.Ieee.{Float, nan}
+use lib.Ieee.{nan}
 use Rattle.cd.specs.Diagrams.{limit}
-use Rattle.cox.specs.Squares.{Square, flat, flat_square}
+use Rattle.cox.specs.Squares.{flat}
 use Rattle.cox.proofs.Sums.{entry_read}
 use Rattle.generator.specs.Shown.{lost}
 use Rattle.generator.proofs.Rows.{lost_none, lost_more}

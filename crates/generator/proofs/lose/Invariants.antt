@@ -1,13 +1,10 @@
 -- `generator::lose` meets its contract. The invariant: the first r coordinates have lost; the measure is what is left of i.
-use mathlib.Core.Path.{◌≡◌, ap, ◌∙◌}
+use mathlib.Core.Path.{◌≡◌}
 use Prim.Native.Nat.{ℕ, ◌-◌, ◌≤◌}
-use native.Mathlib.Omega.{arith}
-use lib.Ieee.{Float, nan}
+use lib.Ieee.{Float}
 use Rattle.cd.specs.Diagrams.{limit}
 use Rattle.cox.specs.Squares.{Square, flat, flat_square}
-use Rattle.cox.proofs.Sums.{entry_read}
 use Rattle.generator.specs.Shown.{lost}
-use Rattle.generator.proofs.Rows.{lost_none, lost_more}
 use Rattle.generator.proofs.lose.Given as goal
 
 abbrev pub invariant-loop-r : goal.invariant-loop-r

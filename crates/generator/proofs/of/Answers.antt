@@ -1,5 +1,4 @@
 -- `generator::of` meets its contract: the coordinates solve the system, and the circumradius is the root of the sum of their squares.
-use borrow.Author.Rules.{rules}
 use Rattle.generator.specs.Generator.{radius}
 use Rattle.generator.specs.Shown.{generator_of}
 use Rattle.generator.specs.TrueDistances.{coordinates}

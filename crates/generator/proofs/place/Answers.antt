@@ -1,10 +1,9 @@
 -- `generator::place` meets its contract. The invariant: the first i coordinates are placed; the measure is what is left of n.
-use mathlib.Core.Path.{◌≡◌, ap, ◌∙◌}
-use Prim.Native.Nat.{ℕ, ◌-◌, ◌≤◌}
+use mathlib.Core.Path.{ap, ◌∙◌}
 use native.Mathlib.Omega.{arith}
-use lib.Ieee.{Float, nan}
+use lib.Ieee.{nan}
 use Rattle.cd.specs.Diagrams.{limit}
-use Rattle.cox.specs.Squares.{Square, flat, flat_square}
+use Rattle.cox.specs.Squares.{flat}
 use Rattle.cox.proofs.Sums.{entry_read}
 use Rattle.generator.specs.TrueDistances.{placeᶠ}
 use Rattle.generator.proofs.Rows.{place_none, place_more}

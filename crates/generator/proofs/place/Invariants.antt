@@ -1,13 +1,10 @@
 -- `generator::place` meets its contract. The invariant: the first i coordinates are placed; the measure is what is left of n.
-use mathlib.Core.Path.{◌≡◌, ap, ◌∙◌}
+use mathlib.Core.Path.{◌≡◌}
 use Prim.Native.Nat.{ℕ, ◌-◌, ◌≤◌}
-use native.Mathlib.Omega.{arith}
-use lib.Ieee.{Float, nan}
+use lib.Ieee.{Float}
 use Rattle.cd.specs.Diagrams.{limit}
 use Rattle.cox.specs.Squares.{Square, flat, flat_square}
-use Rattle.cox.proofs.Sums.{entry_read}
 use Rattle.generator.specs.TrueDistances.{placeᶠ}
-use Rattle.generator.proofs.Rows.{place_none, place_more}
 use Rattle.generator.proofs.place.Given as goal
 
 abbrev pub invariant-loop-i : goal.invariant-loop-i

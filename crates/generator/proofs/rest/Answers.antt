@@ -1,11 +1,9 @@
 -- `generator::rest` meets its contract. The invariant: the first k coordinates are taken off; the measure is what is left of i.
-use mathlib.Core.Path.{◌≡◌, ap, ap₂, ◌∙◌}
-use Prim.Native.Nat.{ℕ, ◌-◌, ◌≤◌}
+use mathlib.Core.Path.{ap, ap₂, ◌∙◌}
 use native.Mathlib.Omega.{arith}
-use lib.Ieee.{Float, nan}
+use lib.Ieee.{nan}
 use Rattle.float.specs.Numbers.{◌/ᶠ◌}
 use Rattle.cd.specs.Diagrams.{limit}
-use Rattle.cox.specs.Squares.{Square, two, flat, flat_square}
 use Rattle.cox.proofs.Sums.{two_literal, entry_read}
 use Rattle.generator.specs.TrueDistances.{restᶠ}
 use Rattle.generator.proofs.Rows.{row_read, rest_none, rest_more}

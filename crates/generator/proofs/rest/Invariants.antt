@@ -1,14 +1,10 @@
 -- `generator::rest` meets its contract. The invariant: the first k coordinates are taken off; the measure is what is left of i.
-use mathlib.Core.Path.{◌≡◌, ap, ap₂, ◌∙◌}
+use mathlib.Core.Path.{◌≡◌}
 use Prim.Native.Nat.{ℕ, ◌-◌, ◌≤◌}
-use native.Mathlib.Omega.{arith}
-use lib.Ieee.{Float, nan}
-use Rattle.float.specs.Numbers.{◌/ᶠ◌}
+use lib.Ieee.{Float}
 use Rattle.cd.specs.Diagrams.{limit}
-use Rattle.cox.specs.Squares.{Square, two, flat, flat_square}
-use Rattle.cox.proofs.Sums.{two_literal, entry_read}
+use Rattle.cox.specs.Squares.{Square, flat, flat_square}
 use Rattle.generator.specs.TrueDistances.{restᶠ}
-use Rattle.generator.proofs.Rows.{row_read, rest_none, rest_more}
 use Rattle.generator.proofs.rest.Given as goal
 
 abbrev pub invariant-loop-k : goal.invariant-loop-k

@@ -1,13 +1,13 @@
 -- `generator::solve` meets its contract. The invariant: the rows that are left, from the present coordinates, give the whole answer; the measure is the rows left.
-use mathlib.Core.Path.{◌≡◌, refl, ap, ap₂, ◌∙◌}
-use Prim.Native.Nat.{ℕ, ◌-◌, ◌≤◌}
+use mathlib.Core.Path.{refl, ap, ap₂, ◌∙◌}
+use Prim.Native.Nat.{◌-◌}
 use native.Mathlib.Omega.{arith}
-use lib.Ieee.{Float, nan}
+use lib.Ieee.{nan}
 use Rattle.float.specs.Numbers.{◌/ᶠ◌}
 use Rattle.cd.specs.Diagrams.{limit}
-use Rattle.cox.specs.Squares.{Square, flat, flat_square}
+use Rattle.cox.specs.Squares.{flat}
 use Rattle.cox.proofs.Sums.{entry_read}
-use Rattle.generator.specs.Generator.{solved, solve}
+use Rattle.generator.specs.Generator.{solved}
 use Rattle.generator.proofs.Rows.{row_read, solved_row, solve_last, solve_done}
 use Rattle.generator.proofs.solve.Goals as goal
 

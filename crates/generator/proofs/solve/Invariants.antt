@@ -1,14 +1,10 @@
 -- `generator::solve` meets its contract. The invariant: the rows that are left, from the present coordinates, give the whole answer; the measure is the rows left.
-use mathlib.Core.Path.{◌≡◌, refl, ap, ap₂, ◌∙◌}
-use Prim.Native.Nat.{ℕ, ◌-◌, ◌≤◌}
-use native.Mathlib.Omega.{arith}
-use lib.Ieee.{Float, nan}
-use Rattle.float.specs.Numbers.{◌/ᶠ◌}
+use mathlib.Core.Path.{◌≡◌}
+use Prim.Native.Nat.{ℕ, ◌≤◌}
+use lib.Ieee.{Float}
 use Rattle.cd.specs.Diagrams.{limit}
 use Rattle.cox.specs.Squares.{Square, flat, flat_square}
-use Rattle.cox.proofs.Sums.{entry_read}
-use Rattle.generator.specs.Generator.{solved, solve}
-use Rattle.generator.proofs.Rows.{row_read, solved_row, solve_last, solve_done}
+use Rattle.generator.specs.Generator.{solve}
 use Rattle.generator.proofs.solve.Given as goal
 
 abbrev pub invariant-loop-left : goal.invariant-loop-left

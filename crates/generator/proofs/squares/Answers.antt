@@ -1,10 +1,9 @@
 -- `generator::squares` meets its contract. The invariant: s is the sum of the first r squares; the measure is what is left of n.
-use mathlib.Core.Path.{◌≡◌, ap, ◌∙◌}
-use Prim.Native.Nat.{ℕ, ◌-◌, ◌≤◌}
+use mathlib.Core.Path.{ap, ◌∙◌}
 use native.Mathlib.Omega.{arith}
-use lib.Ieee.{Float, nan}
+use lib.Ieee.{nan}
 use Rattle.cd.specs.Diagrams.{limit}
-use Rattle.cox.specs.Squares.{flat, dot}
+use Rattle.cox.specs.Squares.{dot}
 use Rattle.cox.proofs.Sums.{zero_literal, dot_none, dot_more}
 use Rattle.generator.proofs.Rows.{row_read}
 use Rattle.generator.proofs.squares.Goals as goal

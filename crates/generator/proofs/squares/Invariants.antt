@@ -1,12 +1,9 @@
 -- `generator::squares` meets its contract. The invariant: s is the sum of the first r squares; the measure is what is left of n.
-use mathlib.Core.Path.{◌≡◌, ap, ◌∙◌}
+use mathlib.Core.Path.{◌≡◌}
 use Prim.Native.Nat.{ℕ, ◌-◌, ◌≤◌}
-use native.Mathlib.Omega.{arith}
-use lib.Ieee.{Float, nan}
+use lib.Ieee.{Float}
 use Rattle.cd.specs.Diagrams.{limit}
 use Rattle.cox.specs.Squares.{flat, dot}
-use Rattle.cox.proofs.Sums.{zero_literal, dot_none, dot_more}
-use Rattle.generator.proofs.Rows.{row_read}
 use Rattle.generator.proofs.squares.Given as goal
 
 abbrev pub invariant-loop-r : goal.invariant-loop-r

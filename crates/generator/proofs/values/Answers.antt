@@ -1,14 +1,9 @@
 -- `generator::values` meets its contract. The invariant: the values below i are those of the nodes; the measure is what is left of 9.
-use mathlib.Core.List.{List}
-use mathlib.Core.Path.{◌≡◌, refl, ap, ◌∙◌}
-use Prim.Native.Nat.{◌-◌, ◌≤◌}
+use mathlib.Core.Path.{refl, ap, ◌∙◌}
 use native.Mathlib.Omega.{arith}
 use borrow.Author.Rules.{rules}
-use lib.ListN.{length, take}
-use Rattle.cd.specs.Diagrams.{Stored, limit, cd_of}
-use Rattle.cd.specs.declared.Node.{Node}
+use Rattle.cd.specs.Diagrams.{limit}
 use Rattle.cd.proofs.Stored.{node_held}
-use Rattle.cox.specs.Squares.{flat}
 use Rattle.generator.specs.Generator.{value, values}
 use Rattle.generator.proofs.Rows.{filled_none, filled_more, filled_all}
 use Rattle.generator.proofs.values.Goals as goal

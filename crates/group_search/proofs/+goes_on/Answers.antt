@@ -1,11 +1,9 @@
 -- The cycle of calls {goes_on} meets its contract: the measure is m − k, the loop's invariant `Tried` of Placing.antt, whose laws answer the needs.
-use mathlib.Core.Logic.{⊎_elim}
 use native.Mathlib.Omega.{arith}
-use Rattle.cd.specs.Diagrams.{limit}
 use Rattle.cd.proofs.Decided.{decides_yes, decides_no, refutes}
 use Rattle.group_search.specs.Steps.{Wants}
-use Rattle.group_search.proofs.Placing.{Tried, ready_deeper, all_placed, tried_none, tried_label, tried_unsuited, tried_deeper, goes_deeper, tried_all}
-use Prim.Native.Nat.{ℕ, ◌-◌, ◌≤◌, ◌<◌}
+use Rattle.group_search.proofs.Placing.{ready_deeper, all_placed, tried_none, tried_label, tried_unsuited, tried_deeper, goes_deeper, tried_all}
+use Prim.Native.Nat.{ℕ, ◌<◌}
 use Rattle.group_search.proofs.+goes_on.Goals as goal
 use Rattle.group_search.proofs.+goes_on.Goals.{In-loop-v, then-of-v+then-suits+else-goes_on, then-of-v+else-suits, else-of-v}
 

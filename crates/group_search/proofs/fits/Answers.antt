@@ -5,7 +5,6 @@ use native.Mathlib.Nat.{not-suc-le-zero}
 use borrow.Author.Tests.{not-true, not-false}
 use Rattle.cd.proofs.Decided.{decides_no}
 use Rattle.group_search.proofs.Placing.{ready_start}
-use borrow.Author.Rules.{rules}
 use Rattle.group_search.proofs.fits.Goals as goal
 
 pub returns-then-not-is_name : goal.returns-then-not-is_name

@@ -1,9 +1,7 @@
 -- `group_search::groups` meets its contract. The invariant: the list stands before node c (Listing.antt); the measure is what is left of the nodes.
-use borrow.Author.Rules.{rules}
 use Prim.Native.Nat.{◌-◌, ◌≤◌}
-use native.Mathlib.Omega.{arith}
 use Rattle.cd.specs.Diagrams.{limit}
-use Rattle.group_search.proofs.Listing.{Stands, counted, stands_first, stands_on, names_listed, names_refused, table_mirrored}
+use Rattle.group_search.proofs.Listing.{Stands}
 use Rattle.group_search.proofs.groups.Given as goal
 
 abbrev pub invariant-loop-c : goal.invariant-loop-c

@@ -1,12 +1,7 @@
 -- `group_search::label_count` meets its contract. The invariant: r counts those below k; the measure is what is left of the nodes.
-use borrow.Author.Rules.{rules}
 use Prim.Native.Nat.{◌-◌, ◌≤◌}
-use mathlib.Core.Logic.{⊎_elim}
-use mathlib.Core.Path.{◌≡◌, refl, ap, ◌∙◌}
-use native.Mathlib.Numerals.{add-one}
-use native.Mathlib.Omega.{arith}
+use mathlib.Core.Path.{◌≡◌}
 use Rattle.group_search.specs.Steps.{label_count}
-use Rattle.group_search.proofs.Placing.{count_yes, count_no}
 use Rattle.group_search.proofs.label_count.Given as goal
 
 abbrev pub invariant-loop-k : goal.invariant-loop-k

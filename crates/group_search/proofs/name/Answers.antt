@@ -1,15 +1,11 @@
 -- `group_search::name` meets its contract. The invariant: no candidate below k fits, so that once all are tried no name does (Telling.antt).
 use mathlib.Core.Path.{refl}
-use Prim.Native.Nat.{ℕ, ◌-◌, ◌≤◌, ◌<◌}
 use native.Mathlib.Nat.{not-suc-le-zero}
 use native.Mathlib.Omega.{arith}
 use borrow.Author.Count.{below_more}
 use borrow.Author.Rules.{rules}
-use lib.ListN.{get_or}
-use Rattle.cd.specs.Diagrams.{limit}
 use Rattle.cd.proofs.Decided.{refutes}
 use Rattle.group_names.specs.declared.Name.TheVariants.{A}
-use Rattle.group_search.specs.Steps.{Placed}
 use Rattle.group_search.proofs.Telling.{none_left, told, told_nothing}
 use Rattle.group_search.proofs.name.Goals as goal
 

@@ -1,7 +1,6 @@
 -- `group_search::none` meets its contract: the places of an empty list.
 use mathlib.Core.List.{List}
 use mathlib.Core.Path.{ap}
-use borrow.Author.Rules.{rules}
 use Rattle.group_names.specs.declared.Group.{Group}
 use Rattle.group_names.specs.declared.Groups.{Groups}
 use Rattle.parse.specs.declared.Answer.TheVariants as said

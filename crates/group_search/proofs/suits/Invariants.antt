@@ -1,14 +1,10 @@
 -- `group_search::suits` meets its contract. The invariant: v is none of the nodes at the places from i to k, and joined to each as is wanted; the measure is i.
 --
-use borrow.Author.Rules.{rules}
-use Prim.Native.Nat.{ℕ, ◌+◌, ◌-◌, ◌*◌, ◌≤◌, ◌<◌}
+use Prim.Native.Nat.{ℕ, ◌+◌, ◌*◌, ◌≤◌, ◌<◌}
 use mathlib.Core.List.{List}
 use mathlib.Core.Logic.{◌≢◌}
-use mathlib.Core.Path.{◌≡◌, sym, ◌∙◌, subst}
-use native.Mathlib.Decide.{ℕ_discrete}
-use native.Mathlib.Omega.{arith}
+use mathlib.Core.Path.{◌≡◌}
 use Rattle.cd.specs.Diagrams.{limit}
-use Rattle.cd.proofs.Decided.{decides_yes, decides_no}
 use Rattle.filing.specs.Numberings.{at}
 use Rattle.group_search.proofs.suits.Given as goal
 

@@ -1,15 +1,11 @@
 -- `group_search::wanted` meets its contract. The invariant: the first i are filled; the measure is what is left of the k places.
-use Prim.Native.Nat.{ℕ, ◌-◌, ◌≤◌, ◌<◌}
-use mathlib.Core.Path.{◌≡◌, refl, ap, ◌∙◌}
+use mathlib.Core.Path.{refl, ap, ◌∙◌}
 use native.Mathlib.Nat.{not-suc-le-zero}
 use native.Mathlib.Omega.{arith}
 use borrow.Author.Count.{below_more}
 use borrow.Author.Rules.{rules}
-use lib.ListN.{length, length-set}
-use Rattle.cd.specs.Diagrams.{limit}
-use Rattle.filing.specs.Numberings.{at}
+use lib.ListN.{length-set}
 use Rattle.filing.proofs.Searching.{put_same, put_below}
-use Rattle.group_names.specs.Names.{entry}
 use Rattle.group_search.specs.Steps.{whole_number}
 use Rattle.group_search.proofs.wanted.Goals as goal
 

@@ -1,11 +1,9 @@
 -- `length::decimal` meets its contract: one run of digits, or two about a point, and the exponent that the code took after them; what it keeps of a number is
 -- judged as the number is (`judged_kept`).
 use mathlib.Core.List.{[]}
-use mathlib.Core.Logic.{⊎_elim}
 use mathlib.Core.Path.{◌≡◌}
 use native.Mathlib.Omega.{arith}
 use lib.ListN.{drop}
-use borrow.Author.Rules.{rules}
 use Rattle.length.specs.Literals.{fraction}
 use Rattle.length.proofs.Decimals.{fraction_at_other, fraction_at_end, decimal_plain, decimal_pointed}
 use Rattle.length.proofs.Exponents.{kept_small}

@@ -1,5 +1,4 @@
 -- `length::fold` meets its contract: the arms of the `match` are the test of the range.
-use borrow.Author.Rules.{rules}
 use native.Mathlib.Omega.{arith}
 use Rattle.length.specs.Literals.{fold}
 use Rattle.scan.proofs.Ranges.{within_inside, within_below, within_above}

@@ -1,10 +1,8 @@
 -- `length::is_word` meets its contract. The invariant: what is left compares as the whole does. The measure is what is left of the word.
 use Prim.Native.Nat.{◌≤◌, ◌-◌}
-use mathlib.Core.Path.{◌≡◌, sym, ◌∙◌}
+use mathlib.Core.Path.{◌≡◌}
 use lib.ListN.{length, drop}
-use borrow.Author.Rules.{rules}
 use Rattle.length.specs.Literals.{is_word}
-use Rattle.length.proofs.Words.{word_alike, word_unlike, word_past_text, word_past_word}
 use Rattle.length.proofs.is_word.Given as goal
 
 abbrev pub invariant-loop-j : goal.invariant-loop-j

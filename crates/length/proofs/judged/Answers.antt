@@ -1,6 +1,5 @@
 -- `length::judged` meets its contract: the tests are the definition's, in its order; past them the digits and the power of ten decide.
 use mathlib.Core.Path.{◌≡◌, sym, ap, ◌∙◌}
-use borrow.Author.Rules.{rules}
 use borrow.Author.Tests.{eq-eqb, ne_eqb, lt-ltb, le-ltb}
 use mir.Facts.{to_z-of_z}
 use mir.Syntax.{w64}

@@ -1,6 +1,5 @@
 -- `length::literal` meets its contract: the sign and what follows it are the definition's.
 use mathlib.Core.Path.{◌∙◌}
-use borrow.Author.Rules.{rules}
 use Rattle.length.specs.Literals.{literal_of}
 use Rattle.length.proofs.literal.Goals as goal
 

@@ -1,7 +1,6 @@
 -- `length::power` meets its contract: numbers up to 1000 read back as they are, and their differences fit.
 use mathlib.Core.Path.{◌≡◌}
 use native.Mathlib.Omega.{arith}
-use borrow.Author.Rules.{rules}
 use lib.IntN.{pos, ◌-ℤ◌, +ℤ_idl}
 use mir.Facts.{to_z-of_z}
 use mir.Syntax.{w64}

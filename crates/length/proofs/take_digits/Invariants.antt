@@ -1,13 +1,9 @@
 -- `length::take_digits` meets its contract. The invariant: what is taken from here on, after what was taken, is what is taken from `at` on.
 -- The measure is what is left of the length.
 use Prim.Native.Nat.{◌≤◌, ◌-◌}
-use mathlib.Core.Path.{sym, ◌∙◌}
-use native.Mathlib.Omega.{arith}
 use lib.ListN.{length}
-use borrow.Author.Rules.{rules}
 use Rattle.length.specs.Kept.{Took}
 use Rattle.length.specs.declared.Digits.{Digits}
-use Rattle.length.proofs.Runs.{took_digit, took_at_other, took_at_end}
 use Rattle.length.proofs.take_digits.Given as goal
 
 abbrev pub invariant-loop-i : goal.invariant-loop-i

@@ -1,10 +1,8 @@
 -- `length::take_exponent` meets its contract: the sign and the digits that it took are the exponent's, whose digits run to the end where nothing is left.
 use mathlib.Core.Bool.{true, ◌&&◌, ◌||◌}
-use mathlib.Core.Logic.{⊎_elim}
 use mathlib.Core.Path.{◌≡◌, ◌∙◌}
 use lib.Dec.{ltb, eqb}
 use lib.ListN.{length, get_or}
-use borrow.Author.Rules.{rules}
 use borrow.Author.Tests.{eq-eqb, ne_eqb, lt-ltb, le-ltb}
 use Rattle.scan.specs.Bytes.{is}
 use Rattle.length.proofs.Exponents.{exponent_at_e, exponent_at_other, exponent_at_end}

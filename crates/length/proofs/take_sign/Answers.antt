@@ -1,5 +1,4 @@
 -- `length::take_sign` meets its contract: a law for each byte that can stand there, and for none.
-use borrow.Author.Rules.{rules}
 use Rattle.length.proofs.Signs.{sign_at_plus, sign_at_minus, sign_at_other, sign_at_end}
 use Rattle.length.proofs.take_sign.Goals as goal
 

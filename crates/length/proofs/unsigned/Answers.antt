@@ -1,6 +1,5 @@
 -- `length::unsigned` meets its contract: the words, as lists of bytes, are compared in the definition's order.
 use mathlib.Core.Path.{sym, ◌∙◌}
-use borrow.Author.Rules.{rules}
 use Rattle.scan.specs.Ascii.{ascii}
 use Rattle.length.specs.Literals.{unsigned}
 use Rattle.length.proofs.unsigned.Goals as goal

@@ -1,10 +1,7 @@
 -- `node::closing` meets its contract. The invariant: the `)` that is found from here on is the one found from `at` on. The measure is what is left of the
 -- length.
-use Prim.Native.Nat.{◌≤◌, ◌-◌}
-use mathlib.Core.Path.{◌≡◌, ◌∙◌}
-use lib.ListN.{length, drop}
+use mathlib.Core.Path.{◌∙◌}
 use borrow.Author.Rules.{rules}
-use Rattle.node.specs.Nodes.{closing}
 use Rattle.node.proofs.NodeLaws.{closing_here, closing_on, closing_at_end}
 use Rattle.node.proofs.closing.Goals as goal
 

@@ -1,6 +1,5 @@
 -- `node::create_node` meets its contract: the first byte decides as in the definition.
 use mathlib.Core.Path.{◌∙◌}
-use borrow.Author.Rules.{rules}
 use Rattle.node.proofs.NodeLaws.{node_of_length, node_of_reference, node_of_letter, node_at_end}
 use Rattle.node.proofs.create_node.Goals as goal
 

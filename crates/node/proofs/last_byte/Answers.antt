@@ -1,6 +1,5 @@
 -- `node::last_byte` meets its contract: it tests what the definition tests.
 use borrow.Author.Tests.{lt-ltb, le-ltb}
-use borrow.Author.Rules.{rules}
 use Rattle.node.specs.Nodes.{last_byte}
 use Rattle.node.proofs.last_byte.Goals as goal
 

@@ -1,5 +1,4 @@
 -- `node::length_node` meets its contract: it goes by the definition's cases.
-use borrow.Author.Rules.{rules}
 use Rattle.node.specs.Nodes.{length_node}
 use Rattle.node.proofs.length_node.Goals as goal
 

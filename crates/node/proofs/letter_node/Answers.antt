@@ -1,6 +1,5 @@
 -- `node::letter_node` meets its contract: it goes by the definition's cases of the letter that `from_char` finds.
 use mathlib.Core.Path.{sym, ◌∙◌}
-use borrow.Author.Rules.{rules}
 use Rattle.node.specs.Nodes.{letter_node}
 use Rattle.node.proofs.letter_node.Goals as goal
 

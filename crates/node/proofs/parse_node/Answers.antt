@@ -1,5 +1,4 @@
 -- `node::parse_node` meets its contract: `closing` finds where the literal ends, if at all, and its parts are the definition's.
-use borrow.Author.Rules.{rules}
 use Rattle.node.proofs.NodeLaws.{length_closed, length_open}
 use Rattle.node.proofs.parse_node.Goals as goal
 

@@ -1,6 +1,5 @@
 -- `node::read_letter` meets its contract: the comparisons of the `match` decide the definition's range.
 use native.Mathlib.Omega.{arith}
-use borrow.Author.Rules.{rules}
 use Rattle.scan.proofs.Ranges.{within_inside, within_below, within_above}
 use Rattle.node.proofs.NodeLaws.{letter_here, no_letter_here, letter_at_end}
 use Rattle.node.proofs.read_letter.Goals as goal

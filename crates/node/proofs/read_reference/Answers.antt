@@ -1,6 +1,5 @@
 -- `node::read_reference` meets its contract: a letter is read where the definition reads it.
 use mathlib.Core.Path.{◌∙◌}
-use borrow.Author.Rules.{rules}
 use Rattle.node.proofs.NodeLaws.{reference_at_minus, reference_at_other, reference_at_end}
 use Rattle.node.proofs.read_reference.Goals as goal
 

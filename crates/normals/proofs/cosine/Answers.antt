@@ -1,5 +1,4 @@
 -- `normals::cosine` meets its contract: for walls the cosine is negated.
-use borrow.Author.Rules.{rules}
 use Rattle.normals.proofs.Columns.{cosine_made}
 use Rattle.normals.proofs.cosine.Goals as goal
 

@@ -1,11 +1,9 @@
 -- `normals::normals` meets its contract. The invariant: the columns that are left, from the square that the array holds, give the whole answer.
-use mathlib.Core.Path.{◌≡◌, ap, ◌∙◌}
+use mathlib.Core.Path.{◌≡◌}
 use Prim.Native.Nat.{◌-◌, ◌≤◌}
-use native.Mathlib.Omega.{arith}
 use Rattle.cd.specs.Diagrams.{limit}
 use Rattle.cox.specs.Squares.{Square, flat_square}
-use Rattle.normals.specs.Shown.{mirrors_of}
-use Rattle.normals.proofs.Columns.{Towards, filled, none_made, all_made, column_refused, column_made, refusal_shown, columns_shown}
+use Rattle.normals.proofs.Columns.{Towards}
 use Rattle.normals.proofs.normals.Given as goal
 
 abbrev pub invariant-loop-i : goal.invariant-loop-i

@@ -1,6 +1,5 @@
 -- `normals::row` meets its contract: each part is read from its array or promised by its callee.
 use native.Mathlib.Omega.{arith}
-use borrow.Author.Rules.{rules}
 use lib.Ieee.{nan}
 use Rattle.cd.specs.Diagrams.{limit}
 use Rattle.cox.proofs.Sums.{entry_read}

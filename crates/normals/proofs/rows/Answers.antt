@@ -1,9 +1,8 @@
 -- `normals::rows` meets its contract. The invariant: the first j rows of the column are made; a turn is a store in the array of a square.
-use mathlib.Core.Path.{◌≡◌, sym, ap, ◌∙◌}
-use Prim.Native.Nat.{◌-◌, ◌≤◌}
+use mathlib.Core.Path.{sym, ap, ◌∙◌}
 use native.Mathlib.Omega.{arith}
 use Rattle.cd.specs.Diagrams.{limit}
-use Rattle.cox.specs.Squares.{Square, flat_square}
+use Rattle.cox.specs.Squares.{flat_square}
 use Rattle.normals.specs.Mirrors.{rows}
 use Rattle.normals.proofs.Columns.{rows_none, rows_more}
 use Rattle.normals.proofs.rows.Goals as goal

@@ -1,11 +1,9 @@
 -- `normals::rows` meets its contract. The invariant: the first j rows of the column are made; a turn is a store in the array of a square.
-use mathlib.Core.Path.{◌≡◌, sym, ap, ◌∙◌}
+use mathlib.Core.Path.{◌≡◌}
 use Prim.Native.Nat.{◌-◌, ◌≤◌}
-use native.Mathlib.Omega.{arith}
 use Rattle.cd.specs.Diagrams.{limit}
 use Rattle.cox.specs.Squares.{Square, flat_square}
 use Rattle.normals.specs.Mirrors.{rows}
-use Rattle.normals.proofs.Columns.{rows_none, rows_more}
 use Rattle.normals.proofs.rows.Given as goal
 
 abbrev pub invariant-loop-j : goal.invariant-loop-j

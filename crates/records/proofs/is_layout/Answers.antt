@@ -1,6 +1,5 @@
 -- `records::is_layout` meets its contract: a buffer of a record's length holds the layout and nothing else.
 use mathlib.Core.List.{append-nil}
-use borrow.Author.Rules.{rules}
 use Rattle.records.proofs.is_layout.Goals as goal
 
 pub returns : goal.returns

@@ -1,5 +1,4 @@
 -- `records::lay` meets its contract: the parts fill the zeros behind the count.
-use borrow.Author.Rules.{rules}
 use Rattle.cd.specs.Diagrams.{limit}
 use Rattle.filing.specs.Numberings.{at}
 use Rattle.records.proofs.Layouts.{layout_written}

@@ -1,6 +1,6 @@
 -- `records::put` meets its contract. The invariant: the bytes passed are written.
 use mathlib.Core.Path.{◌≡◌, refl, sym, ap, ◌∙◌}
-use Prim.Native.Nat.{◌+◌, ◌-◌, ◌≤◌}
+use Prim.Native.Nat.{◌+◌}
 use native.Mathlib.Omega.{arith}
 use lib.ListN.{get_or, set, length, take, length-set}
 use lib.Seq.{take-length}

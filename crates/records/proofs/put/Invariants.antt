@@ -1,13 +1,8 @@
 -- `records::put` meets its contract. The invariant: the bytes passed are written.
-use mathlib.Core.Path.{◌≡◌, refl, sym, ap, ◌∙◌}
-use Prim.Native.Nat.{◌+◌, ◌-◌, ◌≤◌}
-use native.Mathlib.Omega.{arith}
-use lib.ListN.{get_or, set, length, take, length-set}
-use lib.Seq.{take-length}
-use borrow.Author.Rules.{rules}
-use Rattle.filing.proofs.Bytes.{written_nil}
+use mathlib.Core.Path.{◌≡◌}
+use Prim.Native.Nat.{◌-◌, ◌≤◌}
+use lib.ListN.{length, take}
 use Rattle.filing.specs.Bytes.{written}
-use Rattle.records.proofs.Parts.{put_more}
 use Rattle.records.proofs.put.Given as goal
 
 abbrev pub invariant-loop-i : goal.invariant-loop-i

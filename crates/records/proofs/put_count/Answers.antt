@@ -1,8 +1,8 @@
 -- `records::put_count` meets its contract. The invariant: the places passed hold zeros, and all else is as it was.
 use mathlib.Core.Path.{◌≡◌, refl, sym, ap, ◌∙◌}
-use Prim.Native.Nat.{◌-◌, ◌≤◌}
+use Prim.Native.Nat.{◌-◌}
 use native.Mathlib.Omega.{arith}
-use lib.ListN.{length, set, replicate, length-set}
+use lib.ListN.{set, replicate, length-set}
 use borrow.Author.Rules.{rules}
 use Rattle.cd.specs.Diagrams.{limit}
 use Rattle.filing.specs.Bytes.{written}

@@ -1,14 +1,10 @@
 -- `records::put_count` meets its contract. The invariant: the places passed hold zeros, and all else is as it was.
-use mathlib.Core.Path.{◌≡◌, refl, sym, ap, ◌∙◌}
+use mathlib.Core.Path.{◌≡◌}
 use Prim.Native.Nat.{◌-◌, ◌≤◌}
-use native.Mathlib.Omega.{arith}
-use lib.ListN.{length, set, replicate, length-set}
-use borrow.Author.Rules.{rules}
+use lib.ListN.{length, replicate}
 use Rattle.cd.specs.Diagrams.{limit}
 use Rattle.filing.specs.Bytes.{written}
 use Rattle.filing.specs.Records.{record_length}
-use Rattle.filing.proofs.Bytes.{written_nil}
-use Rattle.records.proofs.Parts.{zero_then, count_then}
 use Rattle.records.proofs.put_count.Given as goal
 
 abbrev pub invariant-loop-i : goal.invariant-loop-i

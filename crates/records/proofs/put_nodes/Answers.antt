@@ -1,10 +1,9 @@
 -- `records::put_nodes` meets its contract. The invariant: the nodes passed are written.
 use mathlib.Core.Path.{◌≡◌, refl, sym, ◌∙◌}
-use Prim.Native.Nat.{◌-◌, ◌≤◌}
 use native.Mathlib.Omega.{arith}
-use lib.ListN.{length, length-set}
+use lib.ListN.{length-set}
 use borrow.Author.Rules.{rules}
-use Rattle.filing.specs.Bytes.{blocks, written}
+use Rattle.filing.specs.Bytes.{blocks}
 use Rattle.filing.specs.Numberings.{at}
 use Rattle.filing.proofs.Bytes.{written_nil}
 use Rattle.tables.specs.Tables.{table_nodes}

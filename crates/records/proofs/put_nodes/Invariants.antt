@@ -1,14 +1,10 @@
 -- `records::put_nodes` meets its contract. The invariant: the nodes passed are written.
-use mathlib.Core.Path.{◌≡◌, refl, sym, ◌∙◌}
+use mathlib.Core.Path.{◌≡◌}
 use Prim.Native.Nat.{◌-◌, ◌≤◌}
-use native.Mathlib.Omega.{arith}
-use lib.ListN.{length, length-set}
-use borrow.Author.Rules.{rules}
-use Rattle.filing.specs.Bytes.{blocks, written}
+use lib.ListN.{length}
+use Rattle.filing.specs.Bytes.{written}
 use Rattle.filing.specs.Numberings.{at}
-use Rattle.filing.proofs.Bytes.{written_nil}
 use Rattle.tables.specs.Tables.{table_nodes}
-use Rattle.records.proofs.Layouts.{node_then}
 use Rattle.records.proofs.put_nodes.Given as goal
 
 abbrev pub invariant-loop-i : goal.invariant-loop-i

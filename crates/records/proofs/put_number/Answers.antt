@@ -2,7 +2,6 @@
 use native.Mathlib.Numerals.{towards_suc}
 use native.Mathlib.Omega.{arith}
 use lib.ListN.{length-set}
-use borrow.Author.Rules.{rules}
 use Rattle.filing.specs.Bytes.{bytes}
 use Rattle.records.proofs.Parts.{sets_written}
 use Rattle.records.proofs.put_number.Goals as goal

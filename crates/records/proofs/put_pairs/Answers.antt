@@ -1,11 +1,10 @@
 -- `records::put_pairs` meets its contract. The invariant: the rows passed are written, and k is where the next one goes.
 use mathlib.Core.Path.{◌≡◌, refl, sym, ◌∙◌}
-use Prim.Native.Nat.{◌+◌, ◌-◌, ◌≤◌}
+use Prim.Native.Nat.{◌+◌}
 use native.Mathlib.Omega.{arith}
-use lib.ListN.{length}
 use borrow.Author.Rules.{rules}
 use Rattle.cd.specs.Diagrams.{limit}
-use Rattle.filing.specs.Bytes.{blocks, written}
+use Rattle.filing.specs.Bytes.{blocks}
 use Rattle.filing.specs.Numberings.{at}
 use Rattle.filing.specs.Records.{nodes_length}
 use Rattle.filing.proofs.Bytes.{written_nil}

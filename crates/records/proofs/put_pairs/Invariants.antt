@@ -1,16 +1,12 @@
 -- `records::put_pairs` meets its contract. The invariant: the rows passed are written, and k is where the next one goes.
-use mathlib.Core.Path.{◌≡◌, refl, sym, ◌∙◌}
+use mathlib.Core.Path.{◌≡◌}
 use Prim.Native.Nat.{◌+◌, ◌-◌, ◌≤◌}
-use native.Mathlib.Omega.{arith}
 use lib.ListN.{length}
-use borrow.Author.Rules.{rules}
 use Rattle.cd.specs.Diagrams.{limit}
-use Rattle.filing.specs.Bytes.{blocks, written}
+use Rattle.filing.specs.Bytes.{written}
 use Rattle.filing.specs.Numberings.{at}
 use Rattle.filing.specs.Records.{nodes_length}
-use Rattle.filing.proofs.Bytes.{written_nil}
 use Rattle.tables.specs.Tables.{table_pairs}
-use Rattle.records.proofs.Layouts.{pairs_more, row_fits, row_then}
 use Rattle.records.proofs.put_pairs.Given as goal
 
 abbrev pub invariant-loop-j : goal.invariant-loop-j

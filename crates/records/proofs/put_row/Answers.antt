@@ -1,15 +1,13 @@
 -- `records::put_row` meets its contract. The invariant: the pairs passed are written.
 use mathlib.Core.Path.{◌≡◌, refl, sym, ◌∙◌}
-use Prim.Native.Nat.{◌-◌, ◌≤◌}
 use native.Mathlib.Omega.{arith}
-use lib.ListN.{length}
 use borrow.Author.Rules.{rules}
 use Rattle.cd.specs.Diagrams.{limit}
-use Rattle.filing.specs.Bytes.{blocks, written}
+use Rattle.filing.specs.Bytes.{blocks}
 use Rattle.filing.specs.Numberings.{at}
 use Rattle.filing.proofs.Bytes.{written_nil}
 use Rattle.tables.specs.Tables.{table_row}
-use Rattle.records.proofs.Layouts.{pair_of, pair_then}
+use Rattle.records.proofs.Layouts.{pair_then}
 use Rattle.records.proofs.put_row.Goals as goal
 
 pub loop-i-init : goal.loop-i-init

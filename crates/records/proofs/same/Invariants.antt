@@ -1,14 +1,7 @@
 -- `records::same` meets its contract. The invariant: the bytes passed are the same.
-use mathlib.Core.Bool.{false≢true}
-use mathlib.Core.Path.{◌≡◌, refl, ap}
+use mathlib.Core.Path.{◌≡◌}
 use Prim.Native.Nat.{ℕ, ◌-◌, ◌≤◌, ◌<◌}
-use native.Mathlib.Nat.{not-suc-le-zero}
-use native.Mathlib.Numerals.{add-one}
-use native.Mathlib.Omega.{arith}
 use lib.ListN.{length, get_or}
-use lib.Seq.{ext_get_or}
-use borrow.Author.Rules.{rules}
-use Rattle.filing.proofs.Bytes.{one_more}
 use Rattle.records.proofs.same.Given as goal
 
 abbrev pub invariant-loop-i : goal.invariant-loop-i

@@ -1,7 +1,6 @@
 -- `records::write` meets its contract: the smallest layout is the record, by `proofs/Recorded.antt`.
 use Prim.Native.Nat.{◌≤◌}
 use mathlib.Core.Path.{sym, subst}
-use borrow.Author.Rules.{rules}
 use Rattle.cd.specs.Diagrams.{limit}
 use Rattle.tables.specs.Diagrams.{diagram}
 use Rattle.records.proofs.Recorded.{record_written}

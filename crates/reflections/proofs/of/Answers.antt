@@ -1,10 +1,6 @@
 -- `reflections::of` meets its contract. The invariant: the first i matrices are those of the reflections.
-use mathlib.Core.Path.{◌≡◌, ap, ◌∙◌}
-use Prim.Native.Nat.{◌-◌, ◌≤◌}
+use mathlib.Core.Path.{ap, ◌∙◌}
 use native.Mathlib.Omega.{arith}
-use borrow.Author.Rules.{rules}
-use Rattle.cd.specs.Diagrams.{limit}
-use Rattle.cox.specs.Squares.{Square, flat_square}
 use Rattle.reflections.proofs.Matrices.{made, made_none, made_more, made_all}
 use Rattle.reflections.proofs.of.Goals as goal
 

@@ -1,11 +1,9 @@
 -- `reflections::put_column` meets its contract. The invariant: the first r rows of the column are put.
-use mathlib.Core.Path.{◌≡◌, ap, ◌∙◌}
-use Prim.Native.Nat.{◌-◌, ◌≤◌}
+use mathlib.Core.Path.{ap, ◌∙◌}
 use native.Mathlib.Omega.{arith}
-use borrow.Author.Rules.{rules}
 use lib.Ieee.{nan}
 use Rattle.cd.specs.Diagrams.{limit}
-use Rattle.cox.specs.Squares.{Square, flat_square}
+use Rattle.cox.specs.Squares.{flat_square}
 use Rattle.cox.proofs.Sums.{entry_read}
 use Rattle.cox.specs.Shown.{put_column}
 use Rattle.reflections.specs.Shown.{column}

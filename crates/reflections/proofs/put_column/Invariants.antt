@@ -1,16 +1,10 @@
 -- `reflections::put_column` meets its contract. The invariant: the first r rows of the column are put.
-use mathlib.Core.Path.{◌≡◌, ap, ◌∙◌}
+use mathlib.Core.Path.{◌≡◌}
 use Prim.Native.Nat.{◌-◌, ◌≤◌}
-use native.Mathlib.Omega.{arith}
-use borrow.Author.Rules.{rules}
-use lib.Ieee.{nan}
 use Rattle.cd.specs.Diagrams.{limit}
 use Rattle.cox.specs.Squares.{Square, flat_square}
-use Rattle.cox.proofs.Sums.{entry_read}
 use Rattle.cox.specs.Shown.{put_column}
 use Rattle.reflections.specs.Shown.{column}
-use Rattle.cox.proofs.Columns.{column_none}
-use Rattle.reflections.proofs.Columns.{column_put}
 use Rattle.reflections.proofs.put_column.Given as goal
 
 abbrev pub invariant-loop-r : goal.invariant-loop-r

@@ -1,10 +1,8 @@
 -- `reflections::reflection` meets its contract. The invariant: the first c columns are those of the reflection.
-use mathlib.Core.Path.{◌≡◌, ap, ◌∙◌}
-use Prim.Native.Nat.{◌-◌, ◌≤◌}
+use mathlib.Core.Path.{ap, ◌∙◌}
 use native.Mathlib.Omega.{arith}
-use borrow.Author.Rules.{rules}
 use Rattle.cd.specs.Diagrams.{limit}
-use Rattle.cox.specs.Squares.{Square, flat_square}
+use Rattle.cox.specs.Squares.{flat_square}
 use Rattle.cox.proofs.Sums.{two_literal}
 use Rattle.reflections.specs.Reflections.{reflection}
 use Rattle.cox.proofs.Columns.{first, first_none, first_all, first_more}

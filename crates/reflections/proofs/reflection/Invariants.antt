@@ -1,14 +1,10 @@
 -- `reflections::reflection` meets its contract. The invariant: the first c columns are those of the reflection.
-use mathlib.Core.Path.{◌≡◌, ap, ◌∙◌}
+use mathlib.Core.Path.{◌≡◌}
 use Prim.Native.Nat.{◌-◌, ◌≤◌}
-use native.Mathlib.Omega.{arith}
-use borrow.Author.Rules.{rules}
 use Rattle.cd.specs.Diagrams.{limit}
 use Rattle.cox.specs.Squares.{Square, flat_square}
-use Rattle.cox.proofs.Sums.{two_literal}
 use Rattle.reflections.specs.Reflections.{reflection}
-use Rattle.cox.proofs.Columns.{first, first_none, first_all, first_more}
-use Rattle.reflections.proofs.Columns.{column_reflected}
+use Rattle.cox.proofs.Columns.{first}
 use Rattle.reflections.proofs.reflection.Given as goal
 
 abbrev pub invariant-loop-c : goal.invariant-loop-c

@@ -1,12 +1,8 @@
 -- `reflections::unit_dot` meets its contract. The invariant: s is the sum of the first r products.
-use mathlib.Core.Path.{◌≡◌, ap, ◌∙◌}
+use mathlib.Core.Path.{◌≡◌}
 use Prim.Native.Nat.{◌-◌, ◌≤◌}
-use native.Mathlib.Omega.{arith}
-use borrow.Author.Rules.{rules}
-use lib.Ieee.{nan}
 use Rattle.cd.specs.Diagrams.{limit}
 use Rattle.cox.specs.Squares.{Square, flat_square, dot}
-use Rattle.cox.proofs.Sums.{zero_literal, dot_none, dot_more, entry_read}
 use Rattle.reflections.specs.Reflections.{unit}
 use Rattle.reflections.proofs.unit_dot.Given as goal
 

@@ -1,5 +1,4 @@
 -- `cox::families::chain` meets its contract: each test of the definition is one of the code's.
-use borrow.Author.Rules.{rules}
 use borrow.Author.Tests.{eq-eqb, ne_eqb}
 use Rattle.cox.specs.Families.{chain}
 use Rattle.cox.proofs.families.chain.Goals as goal

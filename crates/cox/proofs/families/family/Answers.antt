@@ -1,6 +1,5 @@
 -- `cox::families::family` meets its contract: at each letter antt computes the definition, and at any other byte each test fails.
 use Prim.Native.Char.{code}
-use borrow.Author.Rules.{rules}
 use borrow.Author.Tests.{ne_eqb}
 use Rattle.cox.specs.Families.{made, family}
 use Rattle.cox.proofs.families.family.Goals as goal

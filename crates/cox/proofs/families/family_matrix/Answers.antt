@@ -1,14 +1,13 @@
 -- `cox::families::family_matrix` meets its contract. The invariant: the first k numbers are the family's; the measure is what is left of 81.
-use mathlib.Core.Path.{◌≡◌, refl, ap, ◌∙◌}
-use Prim.Native.Nat.{◌-◌, ◌≤◌}
+use mathlib.Core.Path.{refl, ap, ◌∙◌}
 use native.Mathlib.Omega.{arith}
 use borrow.Author.Rules.{rules}
-use lib.ListN.{length, take}
+use lib.ListN.{length}
 use Rattle.float.specs.Numbers.{whole}
 use Rattle.cd.specs.Diagrams.{limit}
 use Rattle.cox.specs.Families.{family_matrix}
 use Rattle.cox.specs.Shown.{family_of}
-use Rattle.cox.specs.Squares.{flat_square, zeros}
+use Rattle.cox.specs.Squares.{zeros}
 use Rattle.cox.specs.declared.Cox.{Cox}
 use Rattle.cox.proofs.Filled.{filled_next, filled_all}
 use Rattle.cox.proofs.Flats.{length_square}

@@ -1,17 +1,10 @@
 -- `cox::families::family_matrix` meets its contract. The invariant: the first k numbers are the family's; the measure is what is left of 81.
-use mathlib.Core.Path.{◌≡◌, refl, ap, ◌∙◌}
+use mathlib.Core.Path.{◌≡◌}
 use Prim.Native.Nat.{◌-◌, ◌≤◌}
-use native.Mathlib.Omega.{arith}
-use borrow.Author.Rules.{rules}
 use lib.ListN.{length, take}
-use Rattle.float.specs.Numbers.{whole}
 use Rattle.cd.specs.Diagrams.{limit}
 use Rattle.cox.specs.Families.{family_matrix}
-use Rattle.cox.specs.Shown.{family_of}
-use Rattle.cox.specs.Squares.{flat_square, zeros}
-use Rattle.cox.specs.declared.Cox.{Cox}
-use Rattle.cox.proofs.Filled.{filled_next, filled_all}
-use Rattle.cox.proofs.Flats.{length_square}
+use Rattle.cox.specs.Squares.{flat_square}
 use Rattle.cox.proofs.families.family_matrix.Given as goal
 
 abbrev pub invariant-loop-k : goal.invariant-loop-k

@@ -1,5 +1,4 @@
 -- `cox::families::is_entry` meets its contract: where the first test failed, i is not a or j is not b.
-use mathlib.Core.Logic.{⊎_elim}
 use Rattle.cox.proofs.Mirrored.{entry_here, entry_mirrored, entry_other}
 use Rattle.cox.proofs.families.is_entry.Goals as goal
 use Rattle.cox.proofs.families.is_entry.Goals.{then-i-a+else-j-b, else-i-a}

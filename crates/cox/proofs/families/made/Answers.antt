@@ -1,6 +1,5 @@
 -- `cox::families::made` meets its contract: the test of the definition is the code's.
 use mathlib.Core.Path.{sym, ◌∙◌}
-use borrow.Author.Rules.{rules}
 use Rattle.cox.proofs.families.made.Goals as goal
 
 pub returns-then-is_entry : goal.returns-then-is_entry
