@@ -1,10 +1,10 @@
-# make test: `rt ci`, then the library's callers, the command, the program cdlist, the comparisons and the claims on what it has proved.
+# make test: the gate, .ci/run: `rt ci`, then the library's callers, the command, the program cdlist, the comparisons and the claims on what it has proved.
 # make run: the command `lexicon check` on a sample. make cli: the command, target/cli/release/lexicon. make lib: the library for C and Rust.
 # make callers: the programs in C and the Rust crate over the library. make command: the command's tests, and 100,000 texts beside the library.
 # make programs: cdlist where reading or writing fails, and with arguments. make list: cdlist on standard input, or on a sample where that is a terminal.
 # make compare: the comparisons alone, with more pairs; SEED=7 TEXTS=100000000 PAIRS=0 FILES=0 for a seed and counts of one's own.
 # make claims: docs/CLAIMS.md against the crates. make bench: the table of docs/BENCHMARKS.md.
-# Everything is built into target/.
+# Everything is built into target/, but for what `rt` makes of a crate, in its folder out/.
 
 SHELL = /bin/bash
 .SHELLFLAGS = -o pipefail -c
@@ -13,7 +13,7 @@ CC = gcc
 CFLAGS = -std=c11 -Wall -Wextra -ffp-contract=off
 LIB = target/staticlib
 
-.PHONY: test lib libs callers cli command command-tests command-texts programs compare beside models oracle claims run list bench
+.PHONY: test lib libs callers cli command command-tests command-texts programs cdlist compare beside models oracle claims run list bench
 
 # The seed of the texts, pairs and shelf files by chance, and how many.
 SEED := $(shell date +%Y%m%d)
@@ -21,22 +21,20 @@ TEXTS = 1000000
 PAIRS = 1000000
 FILES = 100000
 
-# `rt ci` removes target/ and proves from nothing; what follows runs on what it has proved. Its output is kept in target/ci.log, and its last line, the
-# verdict, is said again only if all passed.
 test:
-	@log=$$(mktemp); rt ci 2>&1 | tee $$log; status=$$?; mkdir -p target; mv $$log target/ci.log; exit $$status
-	@$(MAKE) --no-print-directory -j2 -O callers command programs compare claims PAIRS=100000
-	@tail -n 1 target/ci.log
+	@.ci/run
+
+# The gate says --after-ci, where `rt ci` has just passed: then what it left is taken as it stands.
+AFTER_CI =
 
 lib: libs
 	@echo "$(LIB)/liblexicon_c.a, with include/lexicon.h"
 
 # While crates are proved, a line for each goes to standard error; target/NAME.log has all that was said.
-prove = { $(1); } 2>&1 | tee target/$@.log | sed -un '/^rt: /{/unchanged/!p}' >&2 || { cat target/$@.log; exit 1; }
+prove = { $(1); } 2>&1 | tee target/$@.log | sed -un 's/^rt: chose .* for /proving /p' >&2 || { cat target/$@.log; exit 1; }
 
-# Proves before it builds: what stands below by `rt check`, which proves two crates at a time, as `rt staticlib` does not.
 libs: | target
-	@$(call prove,rt check lent && rt staticlib float_c && rt staticlib lexicon_c)
+	@$(call prove,tools/library $(AFTER_CI) float_c lexicon_c)
 
 callers: libs
 	@$(CC) $(CFLAGS) -pedantic -O2 -Iinclude -o target/edges bindings/c/edges.c $(LIB)/liblexicon_c.a
@@ -62,14 +60,15 @@ command-texts: cli
 	@$(CC) $(CFLAGS) -D_POSIX_C_SOURCE=200809L -O2 -Iinclude -o target/filed oracle/filed.c $(LIB)/liblexicon_c.a
 	@python3 oracle/command.py
 
-# After the library, since two runs of rt in one target/ get in each other's way.
-programs: libs
-	@$(call prove,rt check cdlist)
+# `rt run` proves and builds, and `rt ci` has built as much.
+cdlist: | target
+	@$(if $(AFTER_CI),,$(call prove,cd crates/cdlist && rt run </dev/null))
+
+programs: cdlist
 	@oracle/programs
 
-list: | target
-	@$(call prove,rt check cdlist)
-	@if [ -t 0 ]; then target/bin/cdlist $(ARGUMENT) <crates/cdlist/stdin; else target/bin/cdlist $(ARGUMENT); fi
+list: cdlist
+	@if [ -t 0 ]; then crates/cdlist/out/cdlist $(ARGUMENT) <crates/cdlist/stdin; else crates/cdlist/out/cdlist $(ARGUMENT); fi
 
 compare: beside models
 

@@ -17,7 +17,7 @@ backticks right after "path: " are declared there, after "crate: " in that crate
 "crate, crate: `label`, `label_*`" or "crate: all", or words without backticks; parentheses hold remarks. Any other word that stands alone in backticks
 occurs in the sources or in their paths.
 
-Edits. The line that a must-fail edit replaces stands once in its file.
+Edits. The text that a must-fail edit replaces stands once in its file, or in what its earlier replacements made of it.
 
 Quotations. What stands between `"` in a comment of specs/ are words of one paragraph of document 01, or of document 02 if the comment or the file's
 first comment names that document or a ticket. `..` stands for words left out. Emphasis and line breaks do not count.
@@ -33,21 +33,21 @@ from collections import Counter, namedtuple
 from functools import lru_cache
 from pathlib import Path
 
-PUBLIC = ("lexicon", "geometry", "lexicon_names", "lexicon_c", "group_names/proofs/OneName.antt: one-name",
-          "lexicon/proofs/Demand3.antt: demand-3", "lexicon/proofs/Demand3.antt: nodes-correspond",
-          "lexicon/proofs/OneAnswer.antt: one-answer", "lexicon/proofs/OneAnswer.antt: one-filing", "lexicon/proofs/Wishes.antt: read-alike",
-          "lexicon/proofs/Wishes.antt: accepted-unwished", "lexicon_c/proofs/Demand3.antt: demand-3",
-          "lexicon_c/proofs/Demand3.antt: nodes-correspond", "lexicon_c/proofs/Demand3.antt: one-answer", "lexicon_c/proofs/Demand3.antt: one-filing",
-          "lexicon_articles/proofs/EqualRecords.antt: equal-articles", "lexicon_articles/proofs/EqualRecords.antt: same-edges",
-          "lexicon_c/proofs/Articles.antt: equal-articles")
-PROGRAMS = ("cdlist", "cdlist/proofs/Whole.antt: blocks-list")
+PUBLIC = ("lexicon", "geometry", "lexicon_names", "lexicon_c", "group_names/proofs/OneName.antt: one_name",
+          "lexicon/proofs/Demand3.antt: demand_3", "lexicon/proofs/Demand3.antt: nodes_correspond",
+          "lexicon/proofs/OneAnswer.antt: one_answer", "lexicon/proofs/OneAnswer.antt: one_filing", "lexicon/proofs/Wishes.antt: read_alike",
+          "lexicon/proofs/Wishes.antt: accepted_unwished", "lexicon_c/proofs/Demand3.antt: demand_3",
+          "lexicon_c/proofs/Demand3.antt: nodes_correspond", "lexicon_c/proofs/Demand3.antt: one_answer", "lexicon_c/proofs/Demand3.antt: one_filing",
+          "lexicon_articles/proofs/EqualRecords.antt: equal_articles", "lexicon_articles/proofs/EqualRecords.antt: same_edges",
+          "lexicon_c/proofs/Articles.antt: equal_articles")
+PROGRAMS = ("cdlist", "cdlist/proofs/Whole.antt: blocks_list")
 
 TOP = Path(__file__).resolve().parent.parent
 CRATES = TOP / "crates"
 SHARED = TOP.parent / "shared" / "docs"
 DOCUMENT_01 = "01-scope.md"
 DOCUMENT_02 = "02-change-requests.md"
-KIT = ("Prim", "lib", "mathlib", "native", "borrow")
+KIT = ("std", "core", "Prim", "lib", "mathlib", "native", "borrow", "mir")
 SOURCES = ("crates", "bindings", "cli", "include", "oracle", "bench")
 
 # A definition of a spec file or a type of a source file, the path below crates/; a heading, paragraph, item of a list or cell of a table.
@@ -67,6 +67,12 @@ def read(file):
     return file.read_text("utf-8")
 
 
+def files_of(folder):
+    """The files below a folder, but for what `rt` makes of crates."""
+    made = {CRATES / crate.name / "out" for crate in CRATES.iterdir()}
+    return [file for file in folder.rglob("*") if file.is_file() and not made & set(file.parents)]
+
+
 def text_of(path):
     """The text of a file below crates/."""
     if not (CRATES / path).is_file():
@@ -83,8 +89,8 @@ COMMENT = re.compile(r"(?:^|\s)--(?=\s|$)(.*)")
 
 
 def parts(name):
-    """How a name can stand in a definition: an operator also without its underscores."""
-    return [name] + [p for p in name.split("_") if p] if name[0] == "_" or name[-1] == "_" else [name]
+    """How a name can stand in a definition: an operator also without its places."""
+    return [name] + [p for p in name.split("◌") if p] if "◌" in name else [name]
 
 
 @lru_cache(None)
@@ -124,15 +130,15 @@ def declared(path):
 
 def module(name, where):
     """The spec file (a Node without a name) or the type that a module is of; None for proofs and the kit."""
-    match = re.fullmatch(r"Rattle·(\w+?)(?:·\w+)?\.(specs|proofs)\.(.+)", name)
-    if not match:
-        if name.split(".")[0] not in KIT:
+    match = re.fullmatch(r"Rattle\.(\w+)\.(specs|proofs)\.(.+)", name)
+    if not match or not (CRATES / match[1]).is_dir():
+        if name.removeprefix("Rattle.").split(".")[0] not in KIT:
             fault(where, f"the script knows no module {name}")
         return None
     crate, kind, inner = match.groups()
-    if kind == "proofs" or not (CRATES / crate).is_dir():
+    if kind == "proofs":
         return None
-    inner = [part for part in inner.split(".") if part != "the-variants"]
+    inner = [part for part in inner.split(".") if part != "TheVariants"]
     if inner[0] != "declared":
         return Node(f"{crate}/specs/{'/'.join(inner)}.antt", "")
     return Node(source(crate, inner[1:-1]), inner[-1])
@@ -190,7 +196,9 @@ def words(text):
 # ---- source files
 
 TYPE = re.compile(r"^(?:pub )?(?:struct|enum) (\w+)(?:[^\n]*\}$|.*?^\})", re.M | re.S)
-FUNCTION = re.compile(r'^ *(pub )?(?:extern "C" )?fn (\w+)(.*?)(?:^ *|(?<!ensures)(?<!requires) )\{$', re.M | re.S)
+FUNCTION = re.compile(r'^ *(pub )?(?:extern "C" )?fn (\w+)', re.M)
+CLAUSE = r"(?:requires|ensures)\*? (?:\w+ )?\{"
+USED = re.compile(r"^(?:pub )?use ([\w:]+?)(?:::\{([^}]*)\})?;", re.M)
 
 
 def source(crate, inner=()):
@@ -211,17 +219,32 @@ def types(path):
 @lru_cache(None)
 def functions(path):
     """Of each function of a source file whether it is public, its signature and its contract."""
+    found, text = {}, text_of(path)
+    for match in FUNCTION.finditer(text):
+        lines = []
+        for line in text[match.end():].splitlines():
+            lines.append(line)
+            if line.endswith("{") and not re.search(rf"{CLAUSE}$", line):
+                break
+        signature, *contract = re.split(rf"\b(?={CLAUSE})", "\n".join(lines).removesuffix("{"))
+        found[match[2]] = (bool(match[1]), signature, re.sub(rf"\b{CLAUSE}", " ", " ".join(contract)))
+    return found
+
+
+@lru_cache(None)
+def uses(path):
+    """Of each name that a source file takes from a module its path."""
     found = {}
-    for match in FUNCTION.finditer(text_of(path)):
-        signature, *contract = re.split(r"\b(?=requires \{|ensures \{)", match[3])
-        found[match[2]] = (bool(match[1]), signature, " ".join(contract))
+    for match in USED.finditer(text_of(path)):
+        module, _, own = match[1].rpartition("::") if match[2] is None else (match[1], "", match[2])
+        for used in re.findall(r"(\w+)(?: as (\w+))?", own):
+            found[used[1] or used[0]] = f"{module}::{used[0]}"
     return found
 
 
 def item(path, word):
     """Where the type or function that a word of a source file may name would stand; None outside crates/."""
-    used = re.search(rf"^use (\S+::{word});", text_of(path), re.M)
-    word = used[1] if used else word
+    word = uses(path).get(word, word)
     if "::" not in word:
         return Node(path, word)
     crate, *inner, name = word.split("::")
@@ -260,7 +283,7 @@ def library(crate):
 def program(crate):
     """What the functions name that a program's `main` calls."""
     nodes, path = set(), source(crate)
-    body = re.search(r"^fn main\(\).*?\{$(.*?)^\}", text_of(path), re.M | re.S)
+    body = re.search(r"^fn main\(.*?\{$(.*?)^\}", text_of(path), re.M | re.S)
     for call in re.findall(r"(?<![.\w:])(\w+(?:::\w+)*)\(", body[1] if body else ""):
         called = item(path, call)
         if called and called.name in functions(called.path):
@@ -415,7 +438,7 @@ def existing(path):
 def declares(place, name):
     """Whether a file, or some file of a folder, declares a name."""
     if place.is_dir():
-        return any(declares(file, name) for file in place.rglob("*") if file.suffix in (".antt", ".rt"))
+        return any(declares(file, name) for file in files_of(place) if file.suffix in (".antt", ".rt"))
     name, text = re.escape(name), read(place)
     if place.suffix == ".antt":
         return re.search(rf"^ *(?:(?:unfoldable|abbrev|pub|record|data) )*{name} (?:[^=\n]* )?:", text, re.M)
@@ -428,7 +451,7 @@ def declares(place, name):
 def vocabulary():
     """The words of the sources and of their paths."""
     texts = [read(TOP / "Makefile")]
-    for file in (file for folder in SOURCES for file in (TOP / folder).rglob("*")):
+    for file in (file for folder in SOURCES for file in files_of(TOP / folder)):
         texts.append(str(file.relative_to(TOP)))
         if file.suffix in (".antt", ".rt", ".c", ".h", ".rs", ".py"):
             texts.append(read(file))
@@ -450,12 +473,16 @@ def check_edits(where, text):
 
 def check_edited_lines():
     for edit in sorted(CRATES.glob("*/must-fail/*.edit")):
-        lines = []
+        text, old = "", ""
         for line in read(edit).splitlines():
             if line.startswith("file: "):
-                lines = text_of(f"{edit.parent.parent.name}/{line[6:]}").splitlines()
-            elif line.startswith("old: ") and lines.count(line[5:]) != 1:
-                fault(edit.relative_to(TOP), f"its file has not once the line: {line[5:]}")
+                text = text_of(f"{edit.parent.parent.name}/{line[6:]}")
+            elif line.startswith("old: "):
+                old = line[5:]
+                if text.count(old) != 1:
+                    fault(edit.relative_to(TOP), f"its file has not once the text: {old}")
+            elif line.startswith("new: "):
+                text = text.replace(old, line[5:])
 
 
 def check_names(where, text):
