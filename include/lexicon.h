@@ -8,8 +8,7 @@
  * What a caller must ensure, and nothing more:
  *   - A pointer is aligned for its element type and has as many readable, or for a buffer writable, elements behind it as the length beside it
  *     says; it may be null if that is 0. `answer` and `numbering` have as many as their prototypes say. None of what the pointers point at overlaps.
- *   - The calling convention is that of System V for x86-64, and the processor has the instructions of the level x86-64-v2, SSE4.2 among them, which no
- *     call looks for.
+ *   - The calling convention is that of System V for x86-64.
  *   - The floating-point environment is C's default: round to nearest, no traps, no flush-to-zero. Rounding down, `(0.1)` files as other bytes.
  *
  * answer[0] is what the call returns. After an answer the rest is what the call tells of it, then zeros; after a refusal the rest is its fields, in the

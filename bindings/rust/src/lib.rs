@@ -43,9 +43,9 @@
 //!
 //! # What it needs
 //!
-//! An x86-64 processor, of level v2. Of what else `lexicon.h` asks of a caller the crate ensures all
-//! but the default floating-point environment (round to nearest, no traps, no flush-to-zero), which
-//! a Rust program has unless C code changed it. Rounding down, `(0.1)` files as other bytes.
+//! An x86-64 processor. Of what `lexicon.h` asks of a caller the crate ensures all but the default
+//! floating-point environment (round to nearest, no traps, no flush-to-zero), which a Rust program
+//! has unless C code changed it. Rounding down, `(0.1)` files as other bytes.
 //!
 //! # Coming from miratope-core
 //!

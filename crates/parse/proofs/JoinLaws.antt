@@ -3,17 +3,15 @@
 use Prim.Native.Nat.{ℕ, ◌+◌, ◌-◌, ◌≤◌, ◌<◌}
 use mathlib.Core.Bool.{Bool, true, false}
 use mathlib.Core.List.{List, [], ◌∷◌, ◌++◌}
-use mathlib.Core.Logic.{◌⊎◌, ⊎_elim, inl, inr}
 use mathlib.Core.Path.{◌≡◌, refl, sym, ap, ◌∙◌}
-use native.Mathlib.Nat.{not-suc-le-zero}
 use native.Mathlib.Numerals.{add-one}
 use native.Mathlib.Omega.{arith}
-use borrow.Author.Tests.{lt-ltb, le-ltb, ltb-true}
+use borrow.Author.Tests.{lt-ltb, ltb-true}
 use lib.Dec.{ltb}
 use lib.ListN.{length, get_or, set, take, drop, drop_of_length-le, length-append}
 use lib.Seq.{drop-cons, length-take-le, get_or-take}
 use Rattle.cd.specs.Arrays.{triangle}
-use Rattle.cd.specs.Diagrams.{Stored, between, is_joined, limit, place_of}
+use Rattle.cd.specs.Diagrams.{Stored, between, limit, place_of}
 use Rattle.float.specs.Pick.{pick}
 use Rattle.cd.specs.Edges.{is_two}
 use Rattle.cd.specs.References.{index_of, both_of, ends_of}
@@ -23,13 +21,12 @@ use Rattle.cd.specs.declared.NodeRef.{NodeRef}
 use Rattle.cd.specs.declared.NodeRef.TheVariants.{Absolute, Negative}
 use Rattle.cd.specs.declared.CdError.{CdError}
 use Rattle.cd.specs.declared.CdError.TheVariants.{RepeatEdge, MissingNode}
-use Rattle.cd.specs.declared.Edge.{Edge}
 use Rattle.cd.specs.declared.EdgeRef.{EdgeRef}
 use Rattle.cd.specs.declared.Ends.{Ends}
 use Rattle.cd.specs.declared.Ends.TheVariants.{Dropped, Missing, Both}
 use Rattle.cd.specs.declared.Pair.{Pair}
 use Rattle.cd.proofs.Stored.{loaded, stored, rank_joined}
-use Rattle.parse.specs.Joining.{Joined, Edges, Refused, join_one, join_all}
+use Rattle.parse.specs.Joining.{Edges, Refused, join_one, join_all}
 
 -- ---- the nodes that an edge joins are nodes
 

@@ -40,7 +40,6 @@ use Rattle.parse.specs.Joining as joining
 use Rattle.parse.specs.Reading.{answer, joined, kept, with_edges}
 use Rattle.parse.specs.Reading as gives
 use Rattle.parse.specs.declared.Answer.TheVariants.{Accepted}
-use Rattle.parse.specs.declared.Read.{Read}
 use Rattle.parse.specs.declared.Queue.{Queue}
 use Rattle.node.specs.declared.NodeRead.{NodeRead}
 use Rattle.node.specs.declared.NodeRead.TheVariants as node

@@ -1,9 +1,6 @@
 -- `builder::not_ascii` meets its contract. The invariant: what is found from here on is what is found from the start on.
-use Prim.Native.Nat.{◌≤◌, ◌-◌}
-use mathlib.Core.Path.{◌≡◌, ◌∙◌}
-use lib.ListN.{length, drop}
+use mathlib.Core.Path.{◌∙◌}
 use borrow.Author.Rules.{rules}
-use Rattle.parse.specs.Reading.{high}
 use Rattle.builder.proofs.ReadLaws.{high_here, high_on, high_end}
 use Rattle.builder.proofs.not_ascii.Goals as goal
 

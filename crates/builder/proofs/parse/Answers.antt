@@ -1,5 +1,5 @@
 -- `builder::parse` meets its contract: a new reader has the whole text before it.
-use Rattle.std.proofs.Common.{ap, ◌∙◌}
+use Rattle.std.proofs.Common.{ap}
 use Rattle.parse.specs.Reading.{read}
 use Rattle.builder.proofs.parse.Goals as goal
 

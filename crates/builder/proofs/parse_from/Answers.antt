@@ -1,6 +1,5 @@
 -- `builder::parse_from` meets its contract: each answer is what the tests leave of `read_from`.
 use mathlib.Core.Path.{sym, ap, ◌∙◌}
-use borrow.Author.Rules.{rules}
 use Rattle.parse.specs.Text.{Outcome}
 use Rattle.parse.specs.Reading.{answer, joined, kept}
 use Rattle.builder.proofs.ReadLaws.{too_long, not_low, low, beyond}

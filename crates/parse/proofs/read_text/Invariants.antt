@@ -1,24 +1,11 @@
 -- `parse::read_text` meets its contract. The invariant of the loop over the text is `Due` of proofs/Turns.antt, with what is left of the length as its
 -- measure. At its end the answer is that of the queue joined (`Ended`); of the loop that joins, the invariant is `Midway` of proofs/JoinLaws.antt: the
 -- edges stored so far stand in their places, and the rest of the queue joined after them is the whole queue joined.
-use Prim.Native.Nat.{◌+◌, ◌≤◌, ◌-◌}
-use mathlib.Core.List.{[], ◌∷◌}
-use mathlib.Core.Logic.{⊎_elim}
-use mathlib.Core.Path.{◌≡◌, refl, sym, ap, ◌∙◌}
-use native.Mathlib.Omega.{arith}
-use lib.ListN.{length, get_or, drop, length-set}
-use lib.Seq.{length-take-le}
-use borrow.Author.Rules.{rules}
-use Rattle.cd.specs.Diagrams.{limit, place, none}
-use Rattle.cd.specs.declared.EdgeRef.{EdgeRef}
-use Rattle.cd.specs.declared.Node.TheVariants.{Unringed}
-use Rattle.cd.specs.declared.NodeRef.TheVariants.{Absolute}
-use Rattle.cd.proofs.Arrays.{padded_blank}
-use Rattle.cd.proofs.Stored.{nothing_stored}
-use Rattle.parse.specs.Text.{Outcome}
-use Rattle.parse.specs.Reading.{joined, kept, answer}
-use Rattle.parse.proofs.JoinLaws.{Midway, next_waiting, ends_below, over, dropped, missing, repeated, added}
-use Rattle.parse.proofs.Turns.{Due, Found, After, Ended, waits, due_start, found_reference, found_node, node_refused, node_tenth, edge_waits, none_waits, ended, edge_refused, no_edge, an_edge, join_refused, join_accepted}
+use Prim.Native.Nat.{◌≤◌, ◌-◌}
+use mathlib.Core.Path.{◌≡◌}
+use lib.ListN.{length}
+use Rattle.parse.proofs.JoinLaws.{Midway}
+use Rattle.parse.proofs.Turns.{Due, Ended, waits}
 use Rattle.parse.proofs.read_text.Given as goal
 
 abbrev pub invariant-loop-r : goal.invariant-loop-r
