@@ -43,13 +43,13 @@ def is_camel(name):
 
 
 def is_dashed(name):
-    return re.search(r"[\w'ℕℤ]-[\w'ℕℤ]", name) is not None
+    return re.search(r"[\w'≼≺]-\w", name) is not None
 
 
 def snake(name):
     if is_camel(name):
         name = re.sub(r"(?<=[a-z0-9])([A-Z])", lambda m: "_" + m[1].lower(), name.replace("getD", "get_or"))
-    return re.sub(r"(?<=[\w'])-(?=[\w'])", "_", name)
+    return re.sub(r"(?<=[\w'≼≺])-(?=\w)", "_", name)
 
 
 def table(top):

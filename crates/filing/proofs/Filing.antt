@@ -15,7 +15,7 @@ use Rattle.filing.proofs.Bytes.{bytes_injective, append_injective, blocks_inject
 use Rattle.filing.proofs.Gcd.{lowest_same}
 use Rattle.filing.proofs.Layouts.{lowest_edge, length_nodes_of, length_row_of, length_pairs_of, length_nodes_part, layouts_equal}
 use Rattle.filing.proofs.Numberings.{identity, compose, differ, inverse, inverse_right, inverse_left, inverse_numbering}
-use Rattle.filing.proofs.Order.{≼-antisym}
+use Rattle.filing.proofs.Order.{≼_antisym}
 
 -- ---- a layout shows everything but the numbering
 
@@ -178,7 +178,7 @@ record_carried {N} {d} {e} wd we (f, c) {a} r = record {
     back = iso_sym wd we (f, c)
 
 pub record_unique : {N : ℕ} {d : Diagram} {a b : List ℕ} → IsRecord N d a → IsRecord N d b → a ≡ b
-record_unique ra rb = ≼-antisym (rw rb.laid (ra.least rb.numbering rb.valid)) (rw ra.laid (rb.least ra.numbering ra.valid))
+record_unique ra rb = ≼_antisym (rw rb.laid (ra.least rb.numbering rb.valid)) (rw ra.laid (rb.least ra.numbering ra.valid))
 
 -- THE FILING THEOREM
 module _ (N : ℕ) {d e : Diagram} (wd : IsDiagram N d) (we : IsDiagram N e) {a b : List ℕ} (ra : IsRecord N d a) (rb : IsRecord N e b) where

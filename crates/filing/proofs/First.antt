@@ -17,13 +17,13 @@ use Rattle.filing.specs.Sequences.{Agree, AtMost}
 use Rattle.filing.proofs.Bytes.{blocks_same, length_singles, singles_at}
 use Rattle.filing.proofs.Layouts.{layout_local, length_layout}
 use Rattle.filing.proofs.Numberings.{numbering_same}
-use Rattle.filing.proofs.Order.{≼-antisym, ≼-before, ≼-front}
+use Rattle.filing.proofs.Order.{≼_antisym, ≼_before, ≼_front}
 use Rattle.filing.proofs.Searching.{smallest_key}
 
 -- ---- one at most
 
 pub first_unique : {N : ℕ} {d : Diagram} {bs old old' : List ℕ} → First N d bs old → First N d bs old' → old ≡ old'
-first_unique a b = ≼-antisym (a.least _ b.gives) (b.least _ a.gives)
+first_unique a b = ≼_antisym (a.least _ b.gives) (b.least _ a.gives)
 
 -- ---- one at least
 
@@ -49,8 +49,8 @@ module _ (N : ℕ) (d : Diagram) (few : d.size ≤ N) {bs : List ℕ} (ra : IsRe
     laid : bs ≡ layout N d (at r)
     laid =
         let long = length_layout N d few (at r) ∙ sym (length_layout N d few ra.numbering) in
-        let front = ≼-front (layout N d (at r)) (layout N d ra.numbering) (listed n (at r)) (listed n ra.numbering) long (least ra.numbering ra.valid) in
-        ≼-antisym (ra.least (at r) valid) (subst (λ z. layout N d (at r) ≼ z) (sym ra.laid) front)
+        let front = ≼_front (layout N d (at r)) (layout N d ra.numbering) (listed n (at r)) (listed n ra.numbering) long (least ra.numbering ra.valid) in
+        ≼_antisym (ra.least (at r) valid) (subst (λ z. layout N d (at r) ≼ z) (sym ra.laid) front)
 
     same_nodes : Agree n (at (listed n (at r))) (at r)
     same_nodes i h = singles_at (at r) n 0 i h
@@ -62,7 +62,7 @@ module _ (N : ℕ) (d : Diagram) (few : d.size ≤ N) {bs : List ℕ} (ra : IsRe
         valid = numbering_same same_nodes valid;
         laid = laid ∙ sym (layout_local N d (at (listed n (at r))) (at r) same_nodes);
       };
-      least = λ other g. ≼-before (layout N d (at r))
+      least = λ other g. ≼_before (layout N d (at r))
           (subst₂ (λ z l. key (at r) ≼ (z ++ l)) (sym g.laid ∙ laid) (listed_at n other g.long) (least (at other) g.valid));
     }
 

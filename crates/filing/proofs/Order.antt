@@ -15,12 +15,12 @@ pub ≼_refl : (xs : List ℕ) → xs ≼ xs
 ≼_refl [] = ends
 ≼_refl (x ∷ xs) = same refl (≼_refl xs)
 
-pub ≼-antisym : {xs ys : List ℕ} → xs ≼ ys → ys ≼ xs → xs ≡ ys
-≼-antisym ends ends = refl
-≼-antisym (less p) (less q) = let z : ⊥ = omega arith in absurd z
-≼-antisym (less p) (same q b) = let z : ⊥ = omega arith in absurd z
-≼-antisym (same p a) (less q) = let z : ⊥ = omega arith in absurd z
-≼-antisym (same p a) (same q b) = ap₂ ◌∷◌ p (≼-antisym a b)
+pub ≼_antisym : {xs ys : List ℕ} → xs ≼ ys → ys ≼ xs → xs ≡ ys
+≼_antisym ends ends = refl
+≼_antisym (less p) (less q) = let z : ⊥ = omega arith in absurd z
+≼_antisym (less p) (same q b) = let z : ⊥ = omega arith in absurd z
+≼_antisym (same p a) (less q) = let z : ⊥ = omega arith in absurd z
+≼_antisym (same p a) (same q b) = ap₂ ◌∷◌ p (≼_antisym a b)
 
 pub ≼_trans : {xs ys zs : List ℕ} → xs ≼ ys → ys ≼ zs → xs ≼ zs
 ≼_trans ends b = ends
@@ -29,10 +29,10 @@ pub ≼_trans : {xs ys zs : List ℕ} → xs ≼ ys → ys ≼ zs → xs ≼ zs
 ≼_trans (same p a) (less q) = less (lt_of_le_of_lt (le_of_eq p) q)
 ≼_trans (same p a) (same q b) = same (p ∙ q) (≼_trans a b)
 
-unfoldable pub ≼-total : (xs ys : List ℕ) → (xs ≼ ys) ⊎ (ys ≼ xs)
-≼-total [] ys = inl ends
-≼-total (x ∷ xs) [] = inr ends
-≼-total (x ∷ xs) (y ∷ ys) = go (dec_lt x y) (dec_lt y x) (≼-total xs ys)
+unfoldable pub ≼_total : (xs ys : List ℕ) → (xs ≼ ys) ⊎ (ys ≼ xs)
+≼_total [] ys = inl ends
+≼_total (x ∷ xs) [] = inr ends
+≼_total (x ∷ xs) (y ∷ ys) = go (dec_lt x y) (dec_lt y x) (≼_total xs ys)
   where
     go : Dec (x < y) → Dec (y < x) → (xs ≼ ys) ⊎ (ys ≼ xs) → ((x ∷ xs) ≼ (y ∷ ys)) ⊎ ((y ∷ ys) ≼ (x ∷ xs))
     go (yes p) d r = inl (less p)
@@ -40,20 +40,20 @@ unfoldable pub ≼-total : (xs ys : List ℕ) → (xs ≼ ys) ⊎ (ys ≼ xs)
     go (no p) (no q) (inl r) = let e : x ≡ y = omega arith in inl (same e r)
     go (no p) (no q) (inr r) = let e : y ≡ x = omega arith in inr (same e r)
 
-pub ≼-after : (a : List ℕ) {xs ys : List ℕ} → xs ≼ ys → (a ++ xs) ≼ (a ++ ys)
-≼-after [] h = h
-≼-after (x ∷ a) h = same refl (≼-after a h)
+pub ≼_after : (a : List ℕ) {xs ys : List ℕ} → xs ≼ ys → (a ++ xs) ≼ (a ++ ys)
+≼_after [] h = h
+≼_after (x ∷ a) h = same refl (≼_after a h)
 
-pub ≼-before : (a : List ℕ) {xs ys : List ℕ} → (a ++ xs) ≼ (a ++ ys) → xs ≼ ys
-≼-before [] h = h
-≼-before (x ∷ a) (less h) = absurd (lt_irrefl x h)
-≼-before (x ∷ a) (same e h) = ≼-before a h
+pub ≼_before : (a : List ℕ) {xs ys : List ℕ} → (a ++ xs) ≼ (a ++ ys) → xs ≼ ys
+≼_before [] h = h
+≼_before (x ∷ a) (less h) = absurd (lt_irrefl x h)
+≼_before (x ∷ a) (same e h) = ≼_before a h
 
-pub ≼-front : (a b xs ys : List ℕ) → length a ≡ length b → (a ++ xs) ≼ (b ++ ys) → a ≼ b
-≼-front [] b xs ys l h = ends
-≼-front (x ∷ a) [] xs ys l h = absurd (suc-ne-zero (length a) l)
-≼-front (x ∷ a) (y ∷ b) xs ys l (less h) = less h
-≼-front (x ∷ a) (y ∷ b) xs ys l (same e h) = same e (≼-front a b xs ys (suc_inj l) h)
+pub ≼_front : (a b xs ys : List ℕ) → length a ≡ length b → (a ++ xs) ≼ (b ++ ys) → a ≼ b
+≼_front [] b xs ys l h = ends
+≼_front (x ∷ a) [] xs ys l h = absurd (suc-ne-zero (length a) l)
+≼_front (x ∷ a) (y ∷ b) xs ys l (less h) = less h
+≼_front (x ∷ a) (y ∷ b) xs ys l (same e h) = same e (≼_front a b xs ys (suc_inj l) h)
 
 -- ---- numbers
 

@@ -15,7 +15,7 @@ use Rattle.filing.specs.Records.{layout, IsRecord}
 use Rattle.filing.proofs.Bytes.{one_more, length_singles, singles_at}
 use Rattle.filing.proofs.Layouts.{layout_local}
 use Rattle.filing.proofs.Numberings.{Found, find, injects_all}
-use Rattle.filing.proofs.Order.{≼_refl, ≼_trans, ≼-total}
+use Rattle.filing.proofs.Order.{≼_refl, ≼_trans, ≼_total}
 
 -- ---- numberings as lists
 
@@ -153,7 +153,7 @@ module _ {n : ℕ} {key : (ℕ → ℕ) → List ℕ} where
 
   -- the first k places of p are taken, m are to be filled; b is the best so far
   searched : Local n key → (m k : ℕ) (p b : List ℕ) → m + k ≡ n → n ≤ length p → Injects k n (at p) → IsNumbering n b → (r : List ℕ) × Improves n key k p b r
-  searched local zero k p b e l a h = go (≼-total (key (at b)) (key (at p)))
+  searched local zero k p b e l a h = go (≼_total (key (at b)) (key (at p)))
     where
       go : (key (at b) ≼ key (at p)) ⊎ (key (at p) ≼ key (at b)) → (r : List ℕ) × Improves n key k p b r
       go (inl worse) = (b, improves_worse local (omega arith) h worse)

@@ -1,6 +1,6 @@
 -- A node that was read holds a double and no nan, without the wish no infinity. A letter's is one of the table's, and antt computes the test of each. A
 -- literal's value is an infinity, or is rounded once, since its digits are a double exactly, and is finite. Assumes nothing.
-use Prim.Native.Nat.{ℕ, suc, ◌+◌, ◌-◌, ◌*◌, ◌^◌, ◌≤◌, ◌<◌}
+use Prim.Native.Nat.{ℕ, suc, ◌+◌, ◌-◌, ◌^◌, ◌≤◌, ◌<◌}
 use Prim.Native.Char.{code}
 use mathlib.Core.Bool.{Bool, true, false, not, ◌||◌, true≢false}
 use mathlib.Core.List.{List, [], ◌∷◌, ◌++◌}

@@ -7,14 +7,14 @@ use native.Mathlib.Nat.{le_refl}
 use native.Mathlib.Omega.{arith}
 use Rattle.filing.specs.Bytes.{◌≼◌}
 use Rattle.filing.specs.Records.{record_length}
-use Rattle.filing.proofs.Order.{≼-antisym, ≼_trans}
+use Rattle.filing.proofs.Order.{≼_antisym, ≼_trans}
 use Rattle.shelf.specs.Bisects.{middle, Bisection, none_left, in_front, behind, Bisects, unread, no_multiple, met, missed}
 use Rattle.shelf.specs.Finds.{Finds}
 use Rattle.shelf.specs.Finds as finds
 use Rattle.shelf.specs.Shelves.{◌≺◌, place_at, RightTo, Shelf, Present, Absent}
 use Rattle.shelf.specs.declared.Found.{Found}
 use Rattle.shelf.proofs.Once.{places_once}
-use Rattle.shelf.proofs.Rising.{≼-≺-trans, ≺-≼-trans, no_fall}
+use Rattle.shelf.proofs.Rising.{≼-≺_trans, ≺-≼_trans, no_fall}
 
 -- ---- where bisection ends
 
@@ -38,7 +38,7 @@ module _ {N : ℕ} {l : List ℕ} {n : ℕ} {x : List ℕ} (all : RightTo N l n)
   narrow_behind m above under h s = record {
     ordered = omega arith;
     inside = s.inside;
-    before = λ i j. ≼-≺-trans (no_fall all i m (omega arith) (omega (arith, s.inside))) h;
+    before = λ i j. ≼-≺_trans (no_fall all i m (omega arith) (omega (arith, s.inside))) h;
     behind = s.behind;
   }
 
@@ -57,10 +57,10 @@ module _ {N : ℕ} {l : List ℕ} {n : ℕ} {x : List ℕ} (all : RightTo N l n)
 
   -- where the record is not there
   missed_absent : {p : ℕ} → Narrows N l n x p p → (Present N l n x p → ⊥) → Absent N l n x p
-  missed_absent {p} s none = record { inside = s.inside; before = s.before; after = λ i h k. ≺-≼-trans (λ le. none (here i h k le)) (no_fall all p i h k) }
+  missed_absent {p} s none = record { inside = s.inside; before = s.before; after = λ i h k. ≺-≼_trans (λ le. none (here i h k le)) (no_fall all p i h k) }
     where
       here : (i : ℕ) → p ≤ i → i < n → place_at (record_length N) l p ≼ x → Present N l n x p
-      here i h k le = let m : p < n = omega arith in record { inside = m; here = ≼-antisym le (s.behind p (le_refl p) m) }
+      here i h k le = let m : p < n = omega arith in record { inside = m; here = ≼_antisym le (s.behind p (le_refl p) m) }
 
 -- ---- what it finds
 

@@ -24,7 +24,7 @@ use Rattle.shelf.specs.Finds.{Sound}
 use Rattle.shelf.specs.Shelves.{◌≺◌, place_at, Shelf, Absent, inserted}
 use Rattle.shelf.proofs.Adding.{added_passes, new_present, old_before}
 use Rattle.shelf.proofs.Places.{places_end_to_end, inserted_end}
-use Rattle.shelf.proofs.Rising.{≺-≼, ≼-≺-trans, rising}
+use Rattle.shelf.proofs.Rising.{≺-≼, ≼-≺_trans, rising}
 use Rattle.shelf.proofs.Tested.{readable_length, refused_unreadable}
 use Rattle.shelf_rescue.specs.Rescues.{is_kept, last_copied, copied, Mark, kept, out_of_order, unread, Marked}
 use Rattle.shelf_rescue.proofs.Marks.{kept_only}
@@ -44,7 +44,7 @@ module _ {N : ℕ} {l : List ℕ} {n : ℕ} {last x : List ℕ} (s : ShelfUpTo N
   sound = record { readable = readable; shelf = s.shelf }
 
   at_end : Absent N l n x n
-  at_end = record { inside = le_refl n; before = λ i h. ≼-≺-trans (s.up_to i h) greater; after = λ i h k. absurd (omega arith) }
+  at_end = record { inside = le_refl n; before = λ i h. ≼-≺_trans (s.up_to i h) greater; after = λ i h k. absurd (omega arith) }
 
   grown : ShelfUpTo N (inserted (record_length N) l n x) (suc n) x
   grown = record { shelf = added_passes sound at_end; up_to = one_more _ earlier newest }

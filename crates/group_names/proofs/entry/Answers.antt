@@ -1,7 +1,6 @@
 -- `group_names::entry` meets its contract: a case of the definition for each return.
 use Rattle.cox.specs.Families.{made}
 use Rattle.group_names.specs.Names.{entry}
-use borrow.Author.Rules.{rules}
 use Rattle.group_names.proofs.entry.Goals as goal
 
 pub returns-in-A : goal.returns-in-A

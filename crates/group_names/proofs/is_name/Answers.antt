@@ -1,6 +1,5 @@
 -- `group_names::is_name` meets its contract: a case of the definition for each return.
 use Rattle.group_names.specs.Names.{is_name}
-use borrow.Author.Rules.{rules}
 use Rattle.group_names.proofs.is_name.Goals as goal
 
 pub returns-in-A : goal.returns-in-A

@@ -1,11 +1,7 @@
 -- `group_names::multiples` meets its contract. The invariant: r is the product of the first k multiples (Orders.antt).
-use mathlib.Core.Path.{◌≡◌, refl, sym, ap, ◌∙◌}
-use Prim.Native.Nat.{ℕ, ◌+◌, ◌-◌, ◌*◌, ◌≤◌}
-use native.Mathlib.Nat.{pow-zero, mul-le-mul}
-use native.Mathlib.Omega.{arith}
-use borrow.Author.Rules.{rules}
-use Rattle.filing.specs.Factorials.{factorial}
-use Rattle.group_names.proofs.Orders.{product, product_next, product_fits}
+use mathlib.Core.Path.{◌≡◌}
+use Prim.Native.Nat.{◌-◌, ◌≤◌}
+use Rattle.group_names.proofs.Orders.{product}
 use Rattle.group_names.proofs.multiples.Given as goal
 
 abbrev pub invariant-loop-k : goal.invariant-loop-k

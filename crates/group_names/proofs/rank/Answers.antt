@@ -1,6 +1,5 @@
 -- `group_names::rank` meets its contract: a case of the definition for each return.
 use Rattle.group_names.specs.Names.{rank}
-use borrow.Author.Rules.{rules}
 use Rattle.group_names.proofs.rank.Goals as goal
 
 pub returns-in-A : goal.returns-in-A

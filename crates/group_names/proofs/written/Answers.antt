@@ -1,7 +1,6 @@
 -- `group_names::written` meets its contract: a case of the definition for each return.
 use mathlib.Core.Path.{◌≡◌}
 use Prim.Native.Nat.{ℕ}
-use borrow.Author.Rules.{rules}
 use Rattle.group_names.specs.Names.{written}
 use Rattle.group_names.specs.declared.NameParts.{NameParts}
 use Rattle.group_names.proofs.written.Goals as goal

@@ -30,8 +30,8 @@ module _ (gs : List Group) (n : ℕ) (long : length gs ≡ limit) (few : n ≤ l
   unfolding group_numbers
   numbers_long = flat_length group_numbers 4 (λ g. refl) (take n gs) ∙ ap (λ k. 4 * k) (length-take-le n gs (omega arith))
 
-  then-zeros : (out mid out' : List ℕ) → mid ≡ sets out 0 (numbers gs n) → out' ≡ sets mid (4 * n) (replicate (names_length - 4 * n) 0) → out' ≡ sets out 0 (padded 0 names_length (numbers gs n))
-  then-zeros out mid out' e q =
+  then_zeros : (out mid out' : List ℕ) → mid ≡ sets out 0 (numbers gs n) → out' ≡ sets mid (4 * n) (replicate (names_length - 4 * n) 0) → out' ≡ sets out 0 (padded 0 names_length (numbers gs n))
+  then_zeros out mid out' e q =
       q
       ∙ ap₂ (λ z k. sets z k (replicate (names_length - 4 * n) 0)) e (sym (zero-add (4 * n)))
       ∙ sets_behind out (numbers gs n) (replicate (names_length - 4 * n) 0) 0 (4 * n) numbers_long
@@ -50,7 +50,7 @@ unfolding padded
 returns-else-out-lt-NAMES c =
     let g = c.args.g in
     lends_shown _ _ _ _ _ _ _ c.in-Accepted.is (omega (arith, shown_long g.at g.count, c.if-out-lt-NAMES.false))
-    (then-zeros g.at g.count (long (goal.at.returns-else-out-lt-NAMES c).In-Accepted) c.requires _ _ _ c.put_groups.ensures c.put_zeros.ensures) c.tell.ensures
+    (then_zeros g.at g.count (long (goal.at.returns-else-out-lt-NAMES c).In-Accepted) c.requires _ _ _ c.put_groups.ensures c.put_zeros.ensures) c.tell.ensures
 
 pub returns-in-Refused : goal.returns-in-Refused
 returns-in-Refused c = lends_refusal _ _ _ _ _ _ _ _ c.in-Refused.is refl c.refuse-in-Refused.ensures

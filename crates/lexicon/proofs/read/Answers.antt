@@ -1,6 +1,5 @@
 -- `lexicon::read` meets its contract.
 use Rattle.lexicon.proofs.Answers.{read_few, mark_accepted, mark_refused}
-use borrow.Author.Rules.{rules}
 use Rattle.lexicon.proofs.read.Goals as goal
 
 pub minimal-requires : goal.minimal-requires

@@ -1,5 +1,4 @@
 -- `lexicon::refusal` meets its contract.
-use borrow.Author.Rules.{rules}
 use Rattle.lexicon.proofs.refusal.Goals as goal
 
 pub returns : goal.returns

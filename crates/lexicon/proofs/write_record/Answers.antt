@@ -1,6 +1,5 @@
 -- `lexicon::write_record` meets its contract: the diagram of an accepted text can be filed (proofs/Fileable.antt).
 use mathlib.Core.Path.{refl}
-use borrow.Author.Rules.{rules}
 use Rattle.cd.proofs.Stored.{count_held}
 use Rattle.parse.specs.Reading.{read}
 use Rattle.tables.proofs.TableLayouts.{numbers_held}

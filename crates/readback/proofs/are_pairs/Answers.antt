@@ -1,10 +1,9 @@
 -- `readback::are_pairs` meets its contract. The invariant: the pairs below k are edges in lowest terms; the measure is what is left of the pairs.
 use mathlib.Core.Path.{sym, ap, ◌∙◌, subst}
-use Prim.Native.Nat.{ℕ, ◌+◌, ◌-◌, ◌*◌, ◌/◌, ◌≤◌, ◌<◌}
+use Prim.Native.Nat.{◌+◌, ◌*◌, ◌<◌}
 use native.Mathlib.Nat.{mul-le-mul}
 use native.Mathlib.Omega.{arith}
 use borrow.Author.Count.{below_none, below_more}
-use borrow.Author.Rules.{rules}
 use borrow.Author.Tests.{not-true, not-false}
 use Rattle.cd.specs.Diagrams.{limit}
 use Rattle.cd.specs.Minimal.{Decides}

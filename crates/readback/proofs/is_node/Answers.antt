@@ -1,6 +1,5 @@
 -- `readback::is_node` meets its contract: a law of proofs/Nodes.antt for each kind.
 use mathlib.Core.Logic.{inl, inr}
-use borrow.Author.Rules.{rules}
 use Rattle.readback.proofs.Nodes.{decides_unringed, decides_valued, decides_none}
 use Rattle.readback.proofs.is_node.Goals as goal
 

@@ -1,6 +1,5 @@
 -- `readback::is_spelled` meets its contract: count, nodes and pairs make a diagram in lowest terms, which has each (proofs/SpelledDiagrams.antt).
 use native.Mathlib.Omega.{arith}
-use borrow.Author.Rules.{rules}
 use borrow.Author.Tests.{not-true, not-false}
 use Rattle.cd.proofs.Decided.{decides_no, refutes, decides_same}
 use Rattle.readback.proofs.SpelledDiagrams.{spelled_few, spelled_nodes, spelled_pairs, spelled_diagram}

@@ -1,11 +1,7 @@
 -- `readback::number_at` meets its contract. The invariant: x is the number in the first i bytes at k; the measure is what is left of 8.
 use mathlib.Core.Path.{◌≡◌}
-use Prim.Native.Nat.{◌+◌, ◌-◌, ◌^◌, ◌≤◌, ◌<◌}
-use native.Mathlib.Numerals.{add-one}
-use native.Mathlib.Omega.{arith}
-use borrow.Author.Rules.{rules}
+use Prim.Native.Nat.{◌-◌, ◌^◌, ◌≤◌, ◌<◌}
 use Rattle.filing.specs.Readable.{number_at}
-use Rattle.readback.proofs.Numbers.{number_none, number_next, digit_fits, digit_more}
 use Rattle.readback.proofs.number_at.Given as goal
 
 abbrev pub invariant-loop-i : goal.invariant-loop-i

@@ -1,11 +1,7 @@
 -- `readback::read_edges` meets its contract. The invariant: the edges of the first j places are stored; the measure is what is left of n.
 use mathlib.Core.Path.{◌≡◌}
-use Prim.Native.Nat.{◌-◌, ◌≤◌}
 use native.Mathlib.Omega.{arith}
 use borrow.Author.Rules.{rules}
-use Rattle.cd.specs.Diagrams.{limit}
-use Rattle.readback.specs.Spelled.{edges_to}
-use Rattle.readback.specs.Steps.{Shows}
 use Rattle.readback.proofs.StoredEdges.{none_read}
 use Rattle.readback.proofs.read_edges.Goals as goal
 

@@ -1,16 +1,11 @@
 -- `readback::read_row` meets its contract. The invariant: the edges of the places before j, and those of j with the first i, are stored; the measure is what is
 -- left of the row. A turn is `edge_read` or `two_read` of proofs/StoredEdges.antt.
-use mathlib.Core.List.{◌++◌}
-use mathlib.Core.Logic.{⊎_elim}
 use mathlib.Core.Path.{◌≡◌, sym, ap, ◌∙◌}
-use Prim.Native.Nat.{◌+◌, ◌-◌, ◌*◌, ◌≤◌, ◌<◌}
+use Prim.Native.Nat.{◌+◌, ◌*◌, ◌≤◌, ◌<◌}
 use native.Mathlib.Omega.{arith}
 use borrow.Author.Rules.{rules}
-use borrow.Author.Tests.{not-true, not-false}
 use Rattle.cd.specs.Diagrams.{limit}
 use Rattle.cd.specs.Edges.{is_two}
-use Rattle.readback.specs.Spelled.{row_to, edges_to}
-use Rattle.readback.specs.Steps.{Shows}
 use Rattle.readback.proofs.PairPlaces.{pairs, pair_below}
 use Rattle.readback.proofs.StoredEdges.{upto_few, two_read, edge_read, row_starts, row_ends, edge_halves}
 use Rattle.readback.proofs.read_row.Goals as goal

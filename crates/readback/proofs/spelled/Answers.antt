@@ -1,7 +1,6 @@
 -- `readback::spelled` meets its contract: what its bytes spell is a diagram, so the nodes can be read, and nodes and edges are those of the definition.
 --
 use native.Mathlib.Omega.{arith}
-use borrow.Author.Rules.{rules}
 use Rattle.cd.specs.Diagrams.{limit, cd_of}
 use Rattle.readback.proofs.Nodes.{length_nodes_to}
 use Rattle.readback.proofs.SpelledDiagrams.{spelled_few, spelled_nodes}
