@@ -1,11 +1,6 @@
 -- `cdlist::block` meets its contract. The invariant: the lines before place i are answered in the first `to` bytes; the measure is what is left of the input.
-use Prim.Native.Nat.{◌≤◌, ◌-◌, ◌*◌}
-use mathlib.Core.Path.{◌≡◌}
-use lib.ListN.{length}
 use borrow.Author.Rules.{rules}
 use Rattle.lines.proofs.Blocks.{block_none, block_line}
-use Rattle.lines.specs.Blocks.{IsBlock}
-use Rattle.cdlist.specs.Lists.{longest, Listed}
 use Rattle.cdlist.proofs.block.Goals as goal
 
 pub loop-i-init : goal.loop-i-init

@@ -2,8 +2,6 @@
 use Prim.Native.Nat.{◌≤◌, ◌-◌, ◌*◌}
 use mathlib.Core.Path.{◌≡◌}
 use lib.ListN.{length}
-use borrow.Author.Rules.{rules}
-use Rattle.lines.proofs.Blocks.{block_none, block_line}
 use Rattle.lines.specs.Blocks.{IsBlock}
 use Rattle.cdlist.specs.Lists.{longest, Listed}
 use Rattle.cdlist.proofs.block.Given as goal

@@ -1,7 +1,6 @@
 -- `replay_search::count` is safe and ends: the diagram of an accepted text can be filed, and its tables' entries fit their bytes.
 use mathlib.Core.Bool.{true}
 use native.Mathlib.Omega.{arith}
-use borrow.Author.Rules.{rules}
 use Rattle.parse.specs.Reading.{read}
 use Rattle.tables.proofs.TableLayouts.{numbers_held}
 use Rattle.lexicon.proofs.Answers.{read_few, Accepts, accepts}

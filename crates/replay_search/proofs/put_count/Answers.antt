@@ -1,6 +1,5 @@
 -- `replay_search::put_count` meets its contract: twenty digits hold every count.
 use native.Mathlib.Omega.{arith}
-use borrow.Author.Rules.{rules}
 use Rattle.lines.proofs.Decimals.{most_digits}
 use Rattle.replay_search.proofs.put_count.Goals as goal
 
