@@ -8,7 +8,7 @@ use Rattle.lexicon.specs.Texts.{RightEntry, Entry, texts}
 use Rattle.lexicon.proofs.Marks.{marked_once}
 use Rattle.lexicon.proofs.TextsRight.{told, text_right}
 use Rattle.lines.specs.Blocks.{Blocks}
-use Rattle.lines.specs.Lines.{lines, begun, Answered, none, more}
+use Rattle.lines.specs.Lines.{lines, begun, none, more}
 use Rattle.lines.proofs.Blocks.{blocks_answer, answered_once}
 use Rattle.parse.specs.Reading.{read}
 use Rattle.scan.specs.Ascii.{ascii}

@@ -39,19 +39,19 @@ fn block(s: &[u8], from: usize, wish: bool, out: &mut [u8]) -> Block
     Block { next: i, to: to }
 }
 
-fn main() {
-    let argument = lines::read_argument();
+fn main(rt: HostRuntime) {
+    let argument = lines::read_argument(&rt);
     if !argument.known {
         return;
     }
-    let mut text = io::large_buffer();
-    let n = lines::read_input(&mut text);
+    let mut text = lines::large_buffer();
+    let n = lines::read_input(&rt, &mut text);
     let mut out = lines::buffer();
     let mut from = 0;
     while from < n {
         let b = block(&text[..n], from, argument.infinite, &mut out);
         let to = b.to;
-        if !lines::write_output(&out[..to]) {
+        if !lines::write_output(&rt, &out[..to]) {
             return;
         }
         from = b.next;

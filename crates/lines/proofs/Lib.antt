@@ -4,3 +4,4 @@ pub mod Blocks
 pub mod Writing
 pub mod Decimals
 mod Said
+mod Counting

@@ -2,23 +2,28 @@
 #![tactic(auto)]
 
 ghost use Rattle.std.specs.Prelude.{◌+◌, ◌≤◌, ◌<◌, [], ◌∷◌, ◌≡◌, leb, length, take, drop};
-ghost use Rattle.io.specs.Counts.{IsPrefixLen};
 ghost use Rattle.float.specs.Pick.{pick};
 ghost use Rattle.parse.specs.Reading as parse;
 ghost use Rattle.lines.specs.Lines.{line_end};
 ghost use Rattle.lexicon.specs.Answers.{numeral, spaced, answer_of};
 ghost use Rattle.lines.specs.Written.{Adds};
 ghost use Rattle.lines.specs.Arguments.{argument_of};
+ghost use Rattle.lines.specs.Counts.{IsPrefixLen};
 
 use cd::Numbers;
 use lexicon::Reading;
 use parse::Answer;
+use std::env::{Env, FillError};
+use std::io::Read;
 
+mod number; // number.rt: a number as text
 pub mod spelled; // spelled.rt: bytes that a line spells, and digests of bytes
 
-// Says a line on standard error: a program has no exit status.
-fn say(line: &[u8]) {
-    io::write_all(2, line);
+pub use number::{decimal, hex};
+
+// Says a line on standard error: the exit status stays 0.
+fn say(rt: &impl Eprint, line: &str) {
+    let _ = rt.eprintln(line);
 }
 
 // Whether a program's arguments are known, and whether they are the wish for infinite lengths.
@@ -50,45 +55,61 @@ fn argument_of(count: usize, word: &[u8]) -> Argument
     }
 }
 
-// What the program was started with. Arguments that are not known are said to be so: a word mistyped must not be taken for none. (`os::arg` answers 0 for a word
-// that is longer than its buffer.)
-pub fn read_argument() -> Argument {
+// How many words the program was started with, its own name among them.
+fn argument_count(rt: &impl Env) -> usize {
     let mut word = [0u8; 10];
-    let n = os::arg(1, &mut word);
-    let a = argument_of(os::arg_count(), &word[..n]);
+    for i in 0..usize::MAX {
+        if let Err(FillError::NotPresent) = rt.arg(i, &mut word) {
+            return i;
+        }
+    }
+    usize::MAX
+}
+
+// What the program was started with. Arguments that are not known are said to be so: a word mistyped must not be taken for none. (A word that is longer than the
+// buffer counts as one without bytes.)
+pub fn read_argument(rt: &(impl Env + Eprint)) -> Argument {
+    let mut word = [0u8; 10];
+    let n = rt.arg(1, &mut word).unwrap_or(0);
+    let a = argument_of(argument_count(rt), &word[..n]);
     if !a.known {
-        say(b"no argument but --infinite is known, and nothing is answered\n");
+        say(
+            rt,
+            "no argument but --infinite is known, and nothing is answered",
+        );
     }
     a
 }
 
 // Reads standard input until the buffer is full or the input ends, and answers how many bytes it put at the start of the buffer. Where a read fails it says so
 // and answers 0: what was read may end within a text.
-pub fn read_input(buf: &mut [u8]) -> usize
+pub fn read_input(rt: &(impl Input + Eprint), buf: &mut [u8]) -> usize
     ensures { IsPrefixLen result buf.new }
 {
+    let mut reader = rt.reader();
     let mut done = 0;
     while done < buf.len() {
-        let got = libc::read(0, &mut buf[done..]);
-        if got < 0 {
-            say(b"standard input could not be read, and nothing of it is answered\n");
-            return 0;
+        match reader.read(&mut buf[done..]) {
+            Ok(0) => return done,
+            Ok(more) => done += more,
+            Err(_) => {
+                say(
+                    rt,
+                    "standard input could not be read, and nothing of it is answered",
+                );
+                return 0;
+            }
         }
-        let more = io::count(got, &buf[done..]);
-        if more == 0 {
-            return done;
-        }
-        done += more;
     }
     done
 }
 
 // Writes to standard output. Where that fails it says so and answers false.
-pub fn write_output(bytes: &[u8]) -> bool {
-    if io::write_all(1, bytes) {
+pub fn write_output(rt: &(impl Print + Eprint), bytes: &[u8]) -> bool {
+    if rt.write_all(bytes).is_ok() {
         return true;
     }
-    say(b"standard output could not be written to the end\n");
+    say(rt, "standard output could not be written to the end");
     false
 }
 
@@ -107,7 +128,14 @@ pub fn line_end(s: &[u8], from: usize) -> usize
     i
 }
 
-// For lines that take more than the 65,536 bytes of `io::large_buffer`.
+// The input goes here: no more of it is read.
+pub fn large_buffer() -> [u8; 65536]
+    ensures { 65536 ≡ length result }
+{
+    [0; 65536]
+}
+
+// For lines that take more.
 pub fn large_input() -> [u8; 131072]
     ensures { 131072 ≡ length result }
 {
@@ -122,14 +150,14 @@ pub fn buffer() -> [u8; 16384]
 }
 
 // Writes the answers that wait once they take half the buffer, so that any further answer has room. Answers how many bytes wait then.
-pub fn flushed(out: &[u8], at: usize) -> usize
+pub fn flushed(rt: &(impl Print + Eprint), out: &[u8], at: usize) -> usize
     requires { at ≤ length out.now }
     ensures { (result ≡ pick (leb at 8192) at 0) × (result ≤ 8192) }
 {
     if at <= 8192 {
         return at;
     }
-    write_output(&out[..at]);
+    write_output(rt, &out[..at]);
     0
 }
 
@@ -166,7 +194,7 @@ pub fn put_number(out: &mut [u8], at: usize, mark: u8, n: u64) -> usize
     ensures { Adds out.old at out.new result (mark ∷ numeral n) × (result ≤ at + 21) }
 {
     let mut digits = [0u8; 20];
-    let k = io::decimal(n, &mut digits);
+    let k = decimal(n, &mut digits);
     let to = put(out, at, mark);
     put_all(out, to, &digits[..k])
 }

@@ -14,7 +14,7 @@ fn put_hex(out: &mut [u8], at: usize, n: u64) -> usize
     ensures { result ≤ at + 16 }
 {
     let mut digits = [0u8; 16];
-    let k = io::hex(n, 16, &mut digits);
+    let k = lines::hex(n, 16, &mut digits);
     lines::put_all(out, at, &digits[..k])
 }
 
@@ -130,7 +130,7 @@ fn put_generated(out: &mut [u8], at: usize, r: Generated) -> usize
 }
 
 // Nine matrices take more than half the buffer, so that each is followed by a chance to write them out.
-fn put_reflections(out: &mut [u8], at: usize, r: Reflections) -> usize
+fn put_reflections(rt: &(impl Print + Eprint), out: &mut [u8], at: usize, r: Reflections) -> usize
     requires { (at ≤ 8192) × (9569 ≤ length out.old) }
     ensures { result ≤ 8192 }
 {
@@ -145,22 +145,22 @@ fn put_reflections(out: &mut [u8], at: usize, r: Reflections) -> usize
         let mirror = of[i];
         let m = mirror.at;
         to = put_matrix(out, to, m, n);
-        to = lines::flushed(out, to);
+        to = lines::flushed(rt, out, to);
         i += 1;
     }
     to
 }
 
 // The reflections, mirror by mirror. What was refused has none.
-fn put_reflected(out: &mut [u8], at: usize, r: Reflected) -> usize
+fn put_reflected(rt: &(impl Print + Eprint), out: &mut [u8], at: usize, r: Reflected) -> usize
     requires { (at ≤ 8192) × (9569 ≤ length out.old) }
     ensures { result ≤ 8192 }
 {
     let a = r.answer;
     let all = r.reflections;
     let mut to = put_answer(out, at, a, all.count);
-    to = lines::flushed(out, to);
-    put_reflections(out, to, all)
+    to = lines::flushed(rt, out, to);
+    put_reflections(rt, out, to, all)
 }
 
 // A decimal digit's value, 0 for another byte.
@@ -208,7 +208,7 @@ fn named(s: &[u8]) -> Family {
 }
 
 // A line without a kind, or of none of these, has an empty answer.
-fn answer(s: &[u8], out: &mut [u8], at: usize) -> usize
+fn answer(rt: &(impl Print + Eprint), s: &[u8], out: &mut [u8], at: usize) -> usize
     requires { (at ≤ 8192) × (9656 ≤ length out.old) }
     ensures { result ≤ 9655 }
 {
@@ -221,7 +221,7 @@ fn answer(s: &[u8], out: &mut [u8], at: usize) -> usize
         b'g' => put_generated(out, at, geometry::generator(&s[2..], true)),
         b'w' => put_square(out, at, geometry::walls(&s[2..], true)),
         b't' => put_generated(out, at, geometry::wall_generator(&s[2..], true)),
-        b'r' => put_reflected(out, at, geometry::reflections(&s[2..], true)),
+        b'r' => put_reflected(rt, out, at, geometry::reflections(&s[2..], true)),
         b'M' => {
             let f = named(&s[2..]);
             put_square(out, at, geometry::family_matrix(f.letter, f.size))
@@ -238,25 +238,25 @@ fn answer(s: &[u8], out: &mut [u8], at: usize) -> usize
     }
 }
 
-fn line(s: &[u8], out: &mut [u8], at: usize) -> usize
+fn line(rt: &(impl Print + Eprint), s: &[u8], out: &mut [u8], at: usize) -> usize
     requires { (at ≤ 8192) × (9656 ≤ length out.old) }
     ensures { result ≤ 9656 }
 {
-    let to = answer(s, out, at);
+    let to = answer(rt, s, out, at);
     lines::put(out, to, b'\n')
 }
 
-fn main() {
-    let mut text = io::large_buffer();
-    let n = lines::read_input(&mut text);
+fn main(rt: HostRuntime) {
+    let mut text = lines::large_buffer();
+    let n = lines::read_input(&rt, &mut text);
     let mut out = lines::buffer();
     let mut at = 0;
     let mut from = 0;
     while from < n {
         let end = lines::line_end(&text[..n], from);
-        at = line(&text[from..end], &mut out, at);
-        at = lines::flushed(&out, at);
+        at = line(&rt, &text[from..end], &mut out, at);
+        at = lines::flushed(&rt, &out, at);
         from = end + 1;
     }
-    lines::write_output(&out[..at]);
+    lines::write_output(&rt, &out[..at]);
 }

@@ -242,17 +242,17 @@ fn line(s: &[u8], out: &mut [u8], at: usize) -> usize
     lines::put(out, to, b'\n')
 }
 
-fn main() {
+fn main(rt: HostRuntime) {
     let mut text = lines::large_input();
-    let n = lines::read_input(&mut text);
+    let n = lines::read_input(&rt, &mut text);
     let mut out = lines::buffer();
     let mut at = 0;
     let mut from = 0;
     while from < n {
         let end = lines::line_end(&text[..n], from);
         at = line(&text[from..end], &mut out, at);
-        at = lines::flushed(&out, at);
+        at = lines::flushed(&rt, &out, at);
         from = end + 1;
     }
-    lines::write_output(&out[..at]);
+    lines::write_output(&rt, &out[..at]);
 }
