@@ -44,7 +44,7 @@ fn main(rt: HostRuntime) {
     if !argument.known {
         return;
     }
-    let mut text = lines::large_buffer();
+    let mut text = io::large_buffer();
     let n = lines::read_input(&rt, &mut text);
     let mut out = lines::buffer();
     let mut from = 0;

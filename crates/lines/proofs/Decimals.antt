@@ -1,11 +1,11 @@
--- The digits that `decimal` writes, the fewest that hold the number, are those of `numeral`. Assumes nothing.
+-- The digits that `io::decimal` writes, the fewest that hold the number, are those of `numeral`. Assumes nothing.
 use Prim.Native.Nat.{ℕ, zero, suc, ◌-◌, ◌/◌, ◌%◌, ◌^◌, ◌≤◌, ◌<◌}
 use mathlib.Core.Path.{◌≡◌}
 use native.Mathlib.Nat.{mod-lt, mod-eq_of_lt, pow-suc, one-le-pow, pow-le-pow_right, le-div_iff_mul-le, div-lt_iff_lt-mul, zero-lt-suc, lt_of_not-le}
 use native.Mathlib.Numerals.{sub-one}
 use native.Mathlib.Omega.{arith}
 use borrow.Author.Tests.{lt-ltb, le-ltb}
-use Rattle.lines.specs.Digits.{last_digits, IsDigitCount}
+use Rattle.io.specs.Digits.{last_digits, IsDigitCount}
 use Rattle.lexicon.specs.Answers.{in_digits, numeral}
 
 -- as many digits as hold every number of a size are enough

@@ -4,4 +4,3 @@ pub mod Blocks
 pub mod Writing
 pub mod Decimals
 mod Said
-mod Counting

@@ -3,5 +3,3 @@ pub mod Lines
 pub mod Blocks
 pub mod Written
 pub mod Arguments
-pub mod Counts
-pub mod Digits

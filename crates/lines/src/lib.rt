@@ -2,13 +2,13 @@
 #![tactic(auto)]
 
 ghost use Rattle.std.specs.Prelude.{◌+◌, ◌≤◌, ◌<◌, [], ◌∷◌, ◌≡◌, leb, length, take, drop};
+ghost use Rattle.io.specs.Counts.{IsPrefixLen};
 ghost use Rattle.float.specs.Pick.{pick};
 ghost use Rattle.parse.specs.Reading as parse;
 ghost use Rattle.lines.specs.Lines.{line_end};
 ghost use Rattle.lexicon.specs.Answers.{numeral, spaced, answer_of};
 ghost use Rattle.lines.specs.Written.{Adds};
 ghost use Rattle.lines.specs.Arguments.{argument_of};
-ghost use Rattle.lines.specs.Counts.{IsPrefixLen};
 
 use cd::Numbers;
 use lexicon::Reading;
@@ -16,10 +16,7 @@ use parse::Answer;
 use std::env::{Env, FillError};
 use std::io::Read;
 
-mod number; // number.rt: a number as text
 pub mod spelled; // spelled.rt: bytes that a line spells, and digests of bytes
-
-pub use number::{decimal, hex};
 
 // Says a line on standard error: the exit status stays 0.
 fn say(rt: &impl Eprint, line: &str) {
@@ -128,14 +125,7 @@ pub fn line_end(s: &[u8], from: usize) -> usize
     i
 }
 
-// The input goes here: no more of it is read.
-pub fn large_buffer() -> [u8; 65536]
-    ensures { 65536 ≡ length result }
-{
-    [0; 65536]
-}
-
-// For lines that take more.
+// For lines that take more than the 65,536 bytes of `io::large_buffer`.
 pub fn large_input() -> [u8; 131072]
     ensures { 131072 ≡ length result }
 {
@@ -194,7 +184,7 @@ pub fn put_number(out: &mut [u8], at: usize, mark: u8, n: u64) -> usize
     ensures { Adds out.old at out.new result (mark ∷ numeral n) × (result ≤ at + 21) }
 {
     let mut digits = [0u8; 20];
-    let k = decimal(n, &mut digits);
+    let k = io::decimal(n, &mut digits);
     let to = put(out, at, mark);
     put_all(out, to, &digits[..k])
 }

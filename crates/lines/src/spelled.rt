@@ -74,7 +74,7 @@ pub fn put_digest(out: &mut [u8], at: usize, bytes: &[u8]) -> usize
     ensures { result ≤ at + 9 }
 {
     let mut digits = [0u8; 16];
-    let k = crate::hex(digest(bytes), 8, &mut digits);
+    let k = io::hex(digest(bytes), 8, &mut digits);
     let to = crate::put(out, at, b' ');
     crate::put_all(out, to, &digits[..k])
 }

@@ -17,7 +17,7 @@ fn hex(out: &mut [u8], at: usize, n: u64) -> usize
     ensures { result ≤ at + 16 }
 {
     let mut digits = [0u8; 16];
-    let k = lines::hex(n, 16, &mut digits);
+    let k = io::hex(n, 16, &mut digits);
     lines::put_all(out, at, &digits[..k])
 }
 
@@ -140,7 +140,7 @@ fn line(text: &[u8], out: &mut [u8], at: usize) -> usize
 }
 
 fn main(rt: HostRuntime) {
-    let mut text = lines::large_buffer();
+    let mut text = io::large_buffer();
     let n = lines::read_input(&rt, &mut text);
     let mut out = lines::buffer();
     let mut at = 0;

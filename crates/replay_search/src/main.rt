@@ -26,7 +26,7 @@ fn put_count(out: &mut [u8], at: usize, n: u64) -> usize
     ensures { result ≤ at + 20 }
 {
     let mut digits = [0u8; 20];
-    let k = lines::decimal(n, &mut digits);
+    let k = io::decimal(n, &mut digits);
     lines::put_all(out, at, &digits[..k])
 }
 
@@ -50,7 +50,7 @@ fn line(text: &[u8], out: &mut [u8], at: usize) -> usize
 }
 
 fn main(rt: HostRuntime) {
-    let mut text = lines::large_buffer();
+    let mut text = io::large_buffer();
     let n = lines::read_input(&rt, &mut text);
     let mut out = lines::buffer();
     let mut at = 0;

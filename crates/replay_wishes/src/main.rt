@@ -14,7 +14,7 @@ fn line(text: &[u8], out: &mut [u8], at: usize) -> usize
 }
 
 fn main(rt: HostRuntime) {
-    let mut text = lines::large_buffer();
+    let mut text = io::large_buffer();
     let n = lines::read_input(&rt, &mut text);
     let mut out = lines::buffer();
     let mut at = 0;
