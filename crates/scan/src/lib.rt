@@ -67,7 +67,7 @@ pub fn sort_of(b: u8) -> Sort
     match b {
         b'0'..=b'9' => Sort::Digit,
         b'/' => Sort::Slash,
-        b' ' | b'(' | b'*' | b'A'..=b'z' => Sort::Terminator,
+        b'(' | b'*' | b' ' | b'A'..=b'z' => Sort::Terminator,
         _ => Sort::Other,
     }
 }

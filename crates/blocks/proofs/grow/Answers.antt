@@ -1,5 +1,4 @@
--- `blocks::grow` meets its contract. The invariant: the nodes below w have their blocks at place j + 1, and the rows up to place j are as they were; the measure is what is
--- left of the nodes. A block of place j has at most seven digits, so that one more fits.
+-- `blocks::grow` meets its contract; Invariants.antt has the argument.
 use mathlib.Core.Path.{◌≡◌}
 use native.Mathlib.Nat.{not-suc-le-zero}
 use native.Mathlib.Omega.{arith}

@@ -1,4 +1,4 @@
--- `blocks::grow_all` meets its contract. The invariant: the blocks up to place j are there; the measure is what is left of n.
+-- `blocks::grow_all` meets its contract; Invariants.antt has the argument.
 use mathlib.Core.Path.{◌≡◌}
 use native.Mathlib.Omega.{arith}
 use Prim.Native.Nat.{ℕ, ◌*◌}

@@ -1,4 +1,4 @@
--- `blocks::is_listed` meets its contract: where the loop returns, the number stands. The measure is what is left of m.
+-- `blocks::is_listed` meets its contract; Invariants.antt has the argument.
 use mathlib.Core.Bool.{false≢true}
 use Rattle.blocks.proofs.is_listed.Goals as goal
 

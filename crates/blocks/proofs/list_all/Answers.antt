@@ -1,4 +1,4 @@
--- `blocks::list_all` meets its contract. The invariant: the list has the numbers of the rows below u; the measure is what is left of the rows.
+-- `blocks::list_all` meets its contract; Invariants.antt has the argument.
 use borrow.Author.Count.{below_more}
 use native.Mathlib.Nat.{not-suc-le-zero}
 use native.Mathlib.Omega.{arith}

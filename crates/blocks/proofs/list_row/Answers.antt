@@ -1,5 +1,4 @@
--- `blocks::list_row` meets its contract. The invariant: the list has the row's numbers below v, the first m places are as they were; the measure is what is left of the
--- row.
+-- `blocks::list_row` meets its contract; Invariants.antt has the argument.
 use borrow.Author.Tests.{not-false}
 use mathlib.Core.Path.{refl, ◌∙◌}
 use native.Mathlib.Nat.{not-suc-le-zero}

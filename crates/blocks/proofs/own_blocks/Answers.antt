@@ -1,4 +1,4 @@
--- `blocks::own_blocks` meets its contract. The invariant: the places below i have their blocks; the measure is what is left of n.
+-- `blocks::own_blocks` meets its contract; Invariants.antt has the argument.
 use native.Mathlib.Nat.{not-suc-le-zero}
 use native.Mathlib.Omega.{arith}
 use lib.ListN.{length-set}

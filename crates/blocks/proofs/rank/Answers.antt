@@ -1,4 +1,4 @@
--- `blocks::rank` meets its contract. The invariant: `lower` of the first i numbers are below x; the measure is what is left of m.
+-- `blocks::rank` meets its contract; Invariants.antt has the argument.
 use mathlib.Core.Path.{◌≡◌, refl, ap, sym, ◌∙◌}
 use native.Mathlib.Omega.{arith}
 use Prim.Native.Nat.{◌+◌}

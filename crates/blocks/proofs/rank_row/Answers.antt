@@ -1,5 +1,4 @@
--- `blocks::rank_row` meets its contract. The invariant: the row has its ranks below v, the rows before it are as they were, and all numbers are below the base; the
--- measure is what is left of the row.
+-- `blocks::rank_row` meets its contract; Invariants.antt has the argument.
 use mathlib.Core.Path.{refl, ap, ◌∙◌}
 use native.Mathlib.Nat.{not-suc-le-zero}
 use native.Mathlib.Omega.{arith}

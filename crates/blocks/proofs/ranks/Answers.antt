@@ -1,5 +1,4 @@
--- `blocks::ranks` meets its contract. The invariant: the rows below u have their ranks, and all numbers are below the base; the measure is what is left of the rows. The
--- list has the numbers of all pairs, so ranks stand as they do.
+-- `blocks::ranks` meets its contract; Invariants.antt has the argument.
 use borrow.Author.Count.{below_more}
 use mathlib.Core.Path.{◌∙◌}
 use native.Mathlib.Nat.{not-suc-le-zero}

@@ -1,4 +1,4 @@
--- `builder::not_ascii` meets its contract. The invariant: what is found from here on is what is found from the start on.
+-- `builder::not_ascii` meets its contract; Invariants.antt has the argument.
 use mathlib.Core.Path.{◌∙◌}
 use borrow.Author.Rules.{rules}
 use Rattle.builder.proofs.ReadLaws.{high_here, high_on, high_end}

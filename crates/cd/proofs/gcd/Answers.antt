@@ -1,4 +1,4 @@
--- `cd::gcd` meets its contract: Euclid's step keeps the greatest common divisor, which is known where the second number is 0 or 1.
+-- `cd::gcd` meets its contract; Invariants.antt has the argument.
 use mathlib.Core.Path.{◌≡◌, refl, sym, ap, ◌∙◌}
 use native.Mathlib.Nat.{mod-lt}
 use native.Mathlib.Omega.{arith}

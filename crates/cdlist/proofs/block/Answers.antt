@@ -1,4 +1,4 @@
--- `cdlist::block` meets its contract. The invariant: the lines before place i are answered in the first `to` bytes; the measure is what is left of the input.
+-- `cdlist::block` meets its contract; Invariants.antt has the argument.
 use borrow.Author.Rules.{rules}
 use Rattle.lines.proofs.Blocks.{block_none, block_line}
 use Rattle.cdlist.proofs.block.Goals as goal

@@ -1,4 +1,4 @@
--- `cox::dot` meets its contract. The invariant: s is the sum of the first r products.
+-- `cox::dot` meets its contract; Invariants.antt has the argument.
 use mathlib.Core.Path.{ap, ◌∙◌}
 use native.Mathlib.Omega.{arith}
 use lib.Ieee.{nan}

@@ -1,5 +1,4 @@
--- `cox::matrix` meets its contract. The invariant: the first c columns are the entries by the places of their pairs; the measure is what is left of them. Those
--- entries are the matrix's.
+-- `cox::matrix` meets its contract; Invariants.antt has the argument.
 use mathlib.Core.List.{map}
 use mathlib.Core.Path.{refl, ap₂, ◌∙◌}
 use native.Mathlib.Omega.{arith}

@@ -1,4 +1,4 @@
--- `cox::pair_values` meets its contract. The invariant: the first k values are those of their pairs; the measure is what is left of the pairs.
+-- `cox::pair_values` meets its contract; Invariants.antt has the argument.
 use mathlib.Core.Path.{◌≡◌, refl}
 use native.Mathlib.Omega.{arith}
 use borrow.Author.Rules.{rules}

@@ -1,4 +1,4 @@
--- `cox::put_column` meets its contract. The invariant: the first r rows of the column are put; the measure is what is left of them.
+-- `cox::put_column` meets its contract; Invariants.antt has the argument.
 use mathlib.Core.Path.{ap, ap₂, ◌∙◌}
 use Prim.Native.Nat.{◌+◌, ◌*◌}
 use native.Mathlib.Omega.{arith}

@@ -1,4 +1,4 @@
--- `generator::first_infinite` meets its contract. The invariant: the first infinite value from i on is the whole answer; the measure is what is left of n.
+-- `generator::first_infinite` meets its contract; Invariants.antt has the argument.
 use mathlib.Core.List.{List}
 use mathlib.Core.Path.{◌≡◌, refl, sym, ap, ◌∙◌}
 use native.Mathlib.Omega.{arith}

@@ -1,4 +1,4 @@
--- `generator::lose` meets its contract. The invariant: the first r coordinates have lost; the measure is what is left of i.
+-- `generator::lose` meets its contract; Invariants.antt has the argument.
 use mathlib.Core.Path.{ap, ◌∙◌}
 use native.Mathlib.Omega.{arith}
 use lib.Ieee.{nan}

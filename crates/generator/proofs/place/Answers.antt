@@ -1,4 +1,4 @@
--- `generator::place` meets its contract. The invariant: the first i coordinates are placed; the measure is what is left of n.
+-- `generator::place` meets its contract; Invariants.antt has the argument.
 use mathlib.Core.Path.{ap, ◌∙◌}
 use native.Mathlib.Omega.{arith}
 use lib.Ieee.{nan}

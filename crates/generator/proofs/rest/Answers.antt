@@ -1,4 +1,4 @@
--- `generator::rest` meets its contract. The invariant: the first k coordinates are taken off; the measure is what is left of i.
+-- `generator::rest` meets its contract; Invariants.antt has the argument.
 use mathlib.Core.Path.{ap, ap₂, ◌∙◌}
 use native.Mathlib.Omega.{arith}
 use lib.Ieee.{nan}

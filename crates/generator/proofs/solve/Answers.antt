@@ -1,4 +1,4 @@
--- `generator::solve` meets its contract. The invariant: the rows that are left, from the present coordinates, give the whole answer; the measure is the rows left.
+-- `generator::solve` meets its contract; Invariants.antt has the argument.
 use mathlib.Core.Path.{refl, ap, ap₂, ◌∙◌}
 use Prim.Native.Nat.{◌-◌}
 use native.Mathlib.Omega.{arith}

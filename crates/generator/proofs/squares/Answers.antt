@@ -1,4 +1,4 @@
--- `generator::squares` meets its contract. The invariant: s is the sum of the first r squares; the measure is what is left of n.
+-- `generator::squares` meets its contract; Invariants.antt has the argument.
 use mathlib.Core.Path.{ap, ◌∙◌}
 use native.Mathlib.Omega.{arith}
 use lib.Ieee.{nan}

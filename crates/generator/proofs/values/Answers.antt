@@ -1,4 +1,4 @@
--- `generator::values` meets its contract. The invariant: the values below i are those of the nodes; the measure is what is left of 9.
+-- `generator::values` meets its contract; Invariants.antt has the argument.
 use mathlib.Core.Path.{refl, ap, ◌∙◌}
 use native.Mathlib.Omega.{arith}
 use borrow.Author.Rules.{rules}

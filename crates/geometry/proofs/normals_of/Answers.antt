@@ -26,8 +26,9 @@ mirrored-requires c = few (goal.at.mirrored-requires c).After-matrix-cox
 
 pub returns-in-Accepted : goal.returns-in-Accepted
 returns-in-Accepted c =
+    let d = (goal.at.returns-in-Accepted c).After-matrix-cox in
     let a = accepted (goal.at.returns-in-Accepted c).In-Accepted in
-    normals_shown _ a.ns a.es a.is _ (held (goal.at.returns-in-Accepted c).After-matrix-cox) _ _ (c.mirrored.ensures (matrix a.es) (matrix_at _ _ _ (held (goal.at.returns-in-Accepted c).After-matrix-cox)))
+    normals_shown _ a.ns a.es a.is _ (held d) _ _ (c.mirrored.ensures (matrix a.es) (matrix_at _ _ _ (held d)))
 
 pub returns-in-Refused : goal.returns-in-Refused
 returns-in-Refused c = normals_refused _ _ _ _ (refuses _ _ _ c.parse-r.ensures c.in-Refused.is) c.refused_square.ensures

@@ -1,4 +1,4 @@
--- `group_names::multiples` meets its contract. The invariant: r is the product of the first k multiples (Orders.antt).
+-- `group_names::multiples` meets its contract; Invariants.antt has the argument.
 use mathlib.Core.Path.{◌≡◌, refl, sym, ap, ◌∙◌}
 use Prim.Native.Nat.{ℕ, ◌+◌, ◌*◌, ◌≤◌}
 use native.Mathlib.Nat.{pow-zero, mul-le-mul}

@@ -1,4 +1,4 @@
--- The cycle of calls {goes_on} meets its contract: the measure is m − k, the loop's invariant `Tried` of Placing.antt, whose laws answer the needs.
+-- The cycle of calls {goes_on} meets its contract; Invariants.antt has the argument.
 use native.Mathlib.Omega.{arith}
 use Rattle.cd.proofs.Decided.{decides_yes, decides_no, refutes}
 use Rattle.group_search.specs.Steps.{Wants}
@@ -45,8 +45,9 @@ overflow_add-k t c = omega (arith, below t (goal.at.overflow_add-k t c).In-loop-
 
 pub goes_on-requires : goal.goes_on-requires
 goes_on-requires t c =
-    let suited = (c.suits.ensures _ (wants t (goal.at.goes_on-requires t c).In-loop-v)).only_when c.if-suits.true in
-    (omega (arith, below t (goal.at.goes_on-requires t c).In-loop-v), ready_deeper c.requires (below t (goal.at.goes_on-requires t c).In-loop-v) c.loop-v-test.true c.if-of-v.true suited)
+    let d = (goal.at.goes_on-requires t c).In-loop-v in
+    let suited = (c.suits.ensures _ (wants t d)).only_when c.if-suits.true in
+    (omega (arith, below t d), ready_deeper c.requires (below t d) c.loop-v-test.true c.if-of-v.true suited)
 
 pub returns-then-goes_on : goal.returns-then-goes_on
 returns-then-goes_on t c =

@@ -1,4 +1,4 @@
--- `group_search::bond` meets its contract. The invariant: below v only c has the label c; the measure is what is left of the nodes.
+-- `group_search::bond` meets its contract; Invariants.antt has the argument.
 use borrow.Author.Rules.{rules}
 use Prim.Native.Nat.{◌/◌}
 use mathlib.Core.Path.{ap}

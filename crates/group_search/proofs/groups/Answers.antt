@@ -1,4 +1,4 @@
--- `group_search::groups` meets its contract. The invariant: the list stands before node c (Listing.antt); the measure is what is left of the nodes.
+-- `group_search::groups` meets its contract; Invariants.antt has the argument.
 use borrow.Author.Rules.{rules}
 use native.Mathlib.Omega.{arith}
 use Rattle.group_search.proofs.Listing.{counted, stands_first, stands_on, names_listed, names_refused, table_mirrored}

@@ -1,4 +1,4 @@
--- `group_search::label_count` meets its contract. The invariant: r counts those below k; the measure is what is left of the nodes.
+-- `group_search::label_count` meets its contract; Invariants.antt has the argument.
 use borrow.Author.Rules.{rules}
 use mathlib.Core.Path.{◌≡◌, refl, ap, ◌∙◌}
 use native.Mathlib.Numerals.{add-one}

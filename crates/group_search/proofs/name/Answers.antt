@@ -1,4 +1,4 @@
--- `group_search::name` meets its contract. The invariant: no candidate below k fits, so that once all are tried no name does (Telling.antt).
+-- `group_search::name` meets its contract; Invariants.antt has the argument.
 use mathlib.Core.Path.{refl}
 use native.Mathlib.Nat.{not-suc-le-zero}
 use native.Mathlib.Omega.{arith}

@@ -1,5 +1,4 @@
--- `group_search::suits` meets its contract. The invariant: v is none of the nodes at the places from i to k, and joined to each as is wanted; the measure is i.
---
+-- `group_search::suits` meets its contract; Invariants.antt has the argument.
 use borrow.Author.Rules.{rules}
 use Prim.Native.Nat.{ℕ, ◌-◌, ◌≤◌, ◌<◌}
 use mathlib.Core.Path.{◌≡◌, sym, ◌∙◌, subst}

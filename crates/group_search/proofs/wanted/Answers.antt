@@ -1,4 +1,4 @@
--- `group_search::wanted` meets its contract. The invariant: the first i are filled; the measure is what is left of the k places.
+-- `group_search::wanted` meets its contract; Invariants.antt has the argument.
 use mathlib.Core.Path.{refl, ap, ◌∙◌}
 use native.Mathlib.Nat.{not-suc-le-zero}
 use native.Mathlib.Omega.{arith}

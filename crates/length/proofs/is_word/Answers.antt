@@ -1,4 +1,4 @@
--- `length::is_word` meets its contract. The invariant: what is left compares as the whole does. The measure is what is left of the word.
+-- `length::is_word` meets its contract; Invariants.antt has the argument.
 use mathlib.Core.Path.{sym, ◌∙◌}
 use borrow.Author.Rules.{rules}
 use Rattle.length.proofs.Words.{word_alike, word_unlike, word_past_text, word_past_word}

@@ -26,20 +26,28 @@ up_fits : (c : Start) → SFits w64 (pos c.args.e -ℤ pos c.args.f)
 up_fits c = difference_fits (pos c.args.e) _ (omega arith) c.requires.1
 
 pub overflow_sub-result : goal.overflow_sub-result
-overflow_sub-result c = rw (e_reads (goal.at.overflow_sub-result c).Start) (minus_fits (goal.at.overflow_sub-result c).Start)
+overflow_sub-result c =
+    let d = (goal.at.overflow_sub-result c).Start in
+    rw (e_reads d) (minus_fits d)
 
 pub overflow_sub-result-then-minus : goal.overflow_sub-result-then-minus
-overflow_sub-result-then-minus c = rw (e_reads (goal.at.overflow_sub-result-then-minus c).Start, f_reads (goal.at.overflow_sub-result-then-minus c).Start, to_z-of_z (minus_fits (goal.at.overflow_sub-result-then-minus c).Start)) (down_fits (goal.at.overflow_sub-result-then-minus c).Start)
+overflow_sub-result-then-minus c =
+    let d = (goal.at.overflow_sub-result-then-minus c).Start in
+    rw (e_reads d, f_reads d, to_z-of_z (minus_fits d)) (down_fits d)
 
 pub overflow_sub-result-else-minus : goal.overflow_sub-result-else-minus
-overflow_sub-result-else-minus c = rw (e_reads (goal.at.overflow_sub-result-else-minus c).Start, f_reads (goal.at.overflow_sub-result-else-minus c).Start) (up_fits (goal.at.overflow_sub-result-else-minus c).Start)
+overflow_sub-result-else-minus c =
+    let d = (goal.at.overflow_sub-result-else-minus c).Start in
+    rw (e_reads d, f_reads d) (up_fits d)
 
 pub returns-then-minus : goal.returns-then-minus
 unfolding power
 returns-then-minus c =
-    rw (e_reads (goal.at.returns-then-minus c).Start, f_reads (goal.at.returns-then-minus c).Start, to_z-of_z (minus_fits (goal.at.returns-then-minus c).Start), to_z-of_z (down_fits (goal.at.returns-then-minus c).Start), +ℤ_idl, c.if-minus.true)
+    let d = (goal.at.returns-then-minus c).Start in
+    rw (e_reads d, f_reads d, to_z-of_z (minus_fits d), to_z-of_z (down_fits d), +ℤ_idl, c.if-minus.true)
 
 pub returns-else-minus : goal.returns-else-minus
 unfolding power
 returns-else-minus c =
-    rw (e_reads (goal.at.returns-else-minus c).Start, f_reads (goal.at.returns-else-minus c).Start, to_z-of_z (up_fits (goal.at.returns-else-minus c).Start), c.if-minus.false)
+    let d = (goal.at.returns-else-minus c).Start in
+    rw (e_reads d, f_reads d, to_z-of_z (up_fits d), c.if-minus.false)

@@ -1,5 +1,4 @@
--- `length::take_digits` meets its contract. The invariant: what is taken from here on, after what was taken, is what is taken from `at` on.
--- The measure is what is left of the length.
+-- `length::take_digits` meets its contract; Invariants.antt has the argument.
 use Prim.Native.Nat.{◌≤◌}
 use mathlib.Core.Path.{sym, ◌∙◌}
 use native.Mathlib.Omega.{arith}

@@ -1,4 +1,4 @@
--- `lent::put` meets its contract. The invariant: the doubles passed are stored.
+-- `lent::put` meets its contract; Invariants.antt has the argument.
 use mathlib.Core.Path.{refl, ap, ◌∙◌}
 use borrow.Author.Rules.{rules}
 use lib.ListN.{length-set}

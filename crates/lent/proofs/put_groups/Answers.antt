@@ -1,4 +1,4 @@
--- `lent::put_groups` meets its contract. The invariant: the components passed are stored.
+-- `lent::put_groups` meets its contract; Invariants.antt has the argument.
 use mathlib.Core.Path.{◌≡◌, refl, ap, ◌∙◌}
 use Prim.Native.Nat.{◌<◌}
 use native.Mathlib.Omega.{arith}

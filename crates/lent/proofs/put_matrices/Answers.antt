@@ -1,4 +1,4 @@
--- `lent::put_matrices` meets its contract. The invariant: the matrices passed are stored.
+-- `lent::put_matrices` meets its contract; Invariants.antt has the argument.
 use Prim.Native.Nat.{◌<◌}
 use native.Mathlib.Omega.{arith}
 use borrow.Author.Rules.{rules}

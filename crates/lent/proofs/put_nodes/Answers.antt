@@ -1,4 +1,4 @@
--- `lent::put_nodes` meets its contract. The invariant: the nodes passed are stored.
+-- `lent::put_nodes` meets its contract; Invariants.antt has the argument.
 use mathlib.Core.Path.{refl}
 use Prim.Native.Nat.{◌<◌}
 use native.Mathlib.Omega.{arith}

@@ -1,4 +1,4 @@
--- `lent::put_zeros` meets its contract. The invariant: with zeros from i on the slice is what it is to be.
+-- `lent::put_zeros` meets its contract; Invariants.antt has the argument.
 use mathlib.Core.Path.{◌≡◌, refl, sym, ap, ◌∙◌}
 use Prim.Native.Nat.{◌-◌}
 use native.Mathlib.Omega.{arith}

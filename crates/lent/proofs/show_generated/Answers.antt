@@ -30,10 +30,11 @@ put-requires c =
 pub returns-else-out-lt-GENERATOR : goal.returns-else-out-lt-GENERATOR
 unfolding padded
 returns-else-out-lt-GENERATOR c =
+    let d = (goal.at.returns-else-out-lt-GENERATOR c).In-Accepted in
     let s = c.args in
     let g = s.s.generator in
-    lends_shown _ _ _ _ _ _ _ c.in-Accepted.is (omega (arith, longer (goal.at.returns-else-out-lt-GENERATOR c).In-Accepted, c.if-out-lt-GENERATOR.false))
-    (ap (λ o. set o limit g.radius) c.put.ensures ∙ sets_behind s.out.now g.at (g.radius ∷ []) 0 limit (long (goal.at.returns-else-out-lt-GENERATOR c).In-Accepted)) c.tell.ensures
+    lends_shown _ _ _ _ _ _ _ c.in-Accepted.is (omega (arith, longer d, c.if-out-lt-GENERATOR.false))
+    (ap (λ o. set o limit g.radius) c.put.ensures ∙ sets_behind s.out.now g.at (g.radius ∷ []) 0 limit (long d)) c.tell.ensures
 
 pub returns-in-Refused : goal.returns-in-Refused
 returns-in-Refused c = lends_refusal _ _ _ _ _ _ _ _ c.in-Refused.is refl c.refuse-in-Refused.ensures

@@ -1,4 +1,4 @@
--- `lines::line_end` meets its contract. The invariant: the line ends where it ends from here on.
+-- `lines::line_end` meets its contract; Invariants.antt has the argument.
 use mathlib.Core.Path.{◌∙◌}
 use borrow.Author.Rules.{rules}
 use Rattle.lines.proofs.Ends.{end_here, end_on, end_last}

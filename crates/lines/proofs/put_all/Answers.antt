@@ -1,4 +1,4 @@
--- `lines::put_all` meets its contract. The invariant: the bytes passed are added.
+-- `lines::put_all` meets its contract; Invariants.antt has the argument.
 use mathlib.Core.Path.{refl}
 use native.Mathlib.Nat.{add-zero}
 use native.Mathlib.Omega.{arith}

@@ -1,4 +1,4 @@
--- `lines::put_numbers` meets its contract. The invariant: the numbers passed are written, each in 21 bytes at most.
+-- `lines::put_numbers` meets its contract; Invariants.antt has the argument.
 use Prim.Native.Nat.{ℕ, ◌<◌}
 use mathlib.Core.Path.{◌≡◌, refl, ◌∙◌}
 use native.Mathlib.Omega.{arith}

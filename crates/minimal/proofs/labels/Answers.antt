@@ -1,4 +1,4 @@
--- `minimal::labels` meets its contract. The invariant: the rows below j are met; the measure is what is left of the rows.
+-- `minimal::labels` meets its contract; Invariants.antt has the argument.
 use mathlib.Core.Path.{◌≡◌}
 use native.Mathlib.Omega.{arith}
 use borrow.Author.Rules.{rules}

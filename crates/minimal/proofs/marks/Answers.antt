@@ -1,4 +1,4 @@
--- `minimal::marks` meets its contract. The invariant: the marks below p are those of the pairs; the measure is what is left of 45.
+-- `minimal::marks` meets its contract; Invariants.antt has the argument.
 use mathlib.Core.Path.{◌≡◌, refl}
 use native.Mathlib.Omega.{arith}
 use borrow.Author.Rules.{rules}

@@ -1,5 +1,4 @@
--- `minimal::minimal` meets its contract. The outer invariant: each label below c that is its own has a ringed node; the inner: none of the nodes below i
--- that have the label c is ringed. The measures are what is left of the nodes.
+-- `minimal::minimal` meets its contract; Invariants.antt has the argument.
 use mathlib.Core.Path.{refl, sym, ◌∙◌}
 use native.Mathlib.Nat.{not-suc-le-zero}
 use native.Mathlib.Omega.{arith}

@@ -1,5 +1,4 @@
--- `minimal::relabelled` meets its contract. The invariant: the labels below k are replaced, those from k on are as they were; the measure is what is left of 9.
--- A turn stores at k what stands in the place of the label there.
+-- `minimal::relabelled` meets its contract; Invariants.antt has the argument.
 use mathlib.Core.Path.{◌≡◌, refl, sym, ◌∙◌}
 use native.Mathlib.Omega.{arith}
 use borrow.Author.Rules.{rules}

@@ -1,4 +1,4 @@
--- `minimal::row_met` meets its contract. The invariant: of row j the pairs below i are met; the measure is what is left of the row.
+-- `minimal::row_met` meets its contract; Invariants.antt has the argument.
 use mathlib.Core.Path.{◌≡◌}
 use native.Mathlib.Omega.{arith}
 use borrow.Author.Rules.{rules}

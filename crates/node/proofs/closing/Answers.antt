@@ -1,5 +1,4 @@
--- `node::closing` meets its contract. The invariant: the `)` that is found from here on is the one found from `at` on. The measure is what is left of the
--- length.
+-- `node::closing` meets its contract; Invariants.antt has the argument.
 use mathlib.Core.Path.{◌∙◌}
 use borrow.Author.Rules.{rules}
 use Rattle.node.proofs.NodeLaws.{closing_here, closing_on, closing_at_end}

@@ -1,4 +1,4 @@
--- `normals::normals` meets its contract. The invariant: the columns that are left, from the square that the array holds, give the whole answer.
+-- `normals::normals` meets its contract; Invariants.antt has the argument.
 use mathlib.Core.Path.{ap, ◌∙◌}
 use native.Mathlib.Omega.{arith}
 use Rattle.cd.specs.Diagrams.{limit}

@@ -1,4 +1,4 @@
--- `normals::rows` meets its contract. The invariant: the first j rows of the column are made; a turn is a store in the array of a square.
+-- `normals::rows` meets its contract; Invariants.antt has the argument.
 use mathlib.Core.Path.{sym, ap, ◌∙◌}
 use native.Mathlib.Omega.{arith}
 use Rattle.cd.specs.Diagrams.{limit}

@@ -1,6 +1,4 @@
--- `parse::read_text` meets its contract. The invariant of the loop over the text is `Due` of proofs/Turns.antt, with what is left of the length as its
--- measure. At its end the answer is that of the queue joined (`Ended`); of the loop that joins, the invariant is `Midway` of proofs/JoinLaws.antt: the
--- edges stored so far stand in their places, and the rest of the queue joined after them is the whole queue joined.
+-- `parse::read_text` meets its contract; Invariants.antt has the argument.
 use Prim.Native.Nat.{◌+◌}
 use mathlib.Core.List.{[], ◌∷◌}
 use mathlib.Core.Path.{◌≡◌, refl, sym, ap, ◌∙◌}

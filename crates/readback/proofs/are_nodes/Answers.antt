@@ -1,4 +1,4 @@
--- `readback::are_nodes` meets its contract. The invariant: the nodes below i are nodes; the measure is what is left of n.
+-- `readback::are_nodes` meets its contract; Invariants.antt has the argument.
 use mathlib.Core.Path.{subst}
 use native.Mathlib.Omega.{arith}
 use borrow.Author.Count.{below_none, below_more}

@@ -1,4 +1,4 @@
--- `readback::are_pairs` meets its contract. The invariant: the pairs below k are edges in lowest terms; the measure is what is left of the pairs.
+-- `readback::are_pairs` meets its contract; Invariants.antt has the argument.
 use mathlib.Core.Path.{sym, ap, ◌∙◌, subst}
 use Prim.Native.Nat.{◌+◌, ◌*◌, ◌<◌}
 use native.Mathlib.Nat.{mul-le-mul}

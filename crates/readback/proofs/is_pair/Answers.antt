@@ -24,7 +24,9 @@ pub returns-then-edge-eq0 : goal.returns-then-edge-eq0
 returns-then-edge-eq0 c = decides_no (λ w. omega (arith, w.0.den_pos, den_is (goal.at.returns-then-edge-eq0 c).After-edge_of-edge, c.if-edge-eq0.true))
 
 pub returns-then-edge : goal.returns-then-edge
-returns-then-edge c = decides_no (λ w. omega (arith, w.0.above_one, num_is (goal.at.returns-then-edge c).After-edge_of-edge, den_is (goal.at.returns-then-edge c).After-edge_of-edge, c.if-edge.true))
+returns-then-edge c =
+    let d = (goal.at.returns-then-edge c).After-edge_of-edge in
+    decides_no (λ w. omega (arith, w.0.above_one, num_is d, den_is d, c.if-edge.true))
 
 pub reduced-least-requires : goal.reduced-least-requires
 reduced-least-requires c = omega (arith, c.if-edge-eq0.false)
@@ -36,10 +38,12 @@ least_is c = ap (λ (e : Edge). e.den) c.reduced-least.ensures ∙ ap (λ (e : E
 
 pub returns : goal.returns
 returns c =
+    let d = (goal.at.returns c).After-edge_of-edge in
+    let q = (goal.at.returns c).After-reduced-least in
     let h = halves c.args.x in record {
       only_when = λ t. (
-        record { fits = omega arith; den_pos = omega (arith, den_is (goal.at.returns c).After-edge_of-edge, c.if-edge-eq0.false); above_one = omega (arith, num_is (goal.at.returns c).After-edge_of-edge, den_is (goal.at.returns c).After-edge_of-edge, c.if-edge.false) },
-        lowest_undivided h (omega (arith, den_is (goal.at.returns c).After-edge_of-edge, c.if-edge-eq0.false)) (sym (least_is (goal.at.returns c).After-reduced-least) ∙ eqb-true _ _ t ∙ den_is (goal.at.returns c).After-edge_of-edge),
+        record { fits = omega arith; den_pos = omega (arith, den_is d, c.if-edge-eq0.false); above_one = omega (arith, num_is d, den_is d, c.if-edge.false) },
+        lowest_undivided h (omega (arith, den_is d, c.if-edge-eq0.false)) (sym (least_is q) ∙ eqb-true _ _ t ∙ den_is d),
       );
-      when = λ w. eq-eqb _ _ (least_is (goal.at.returns c).After-reduced-least ∙ ap (λ x. x.den) w.1 ∙ sym (den_is (goal.at.returns c).After-edge_of-edge));
+      when = λ w. eq-eqb _ _ (least_is q ∙ ap (λ x. x.den) w.1 ∙ sym (den_is d));
     }

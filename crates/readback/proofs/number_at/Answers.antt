@@ -1,4 +1,4 @@
--- `readback::number_at` meets its contract. The invariant: x is the number in the first i bytes at k; the measure is what is left of 8.
+-- `readback::number_at` meets its contract; Invariants.antt has the argument.
 use mathlib.Core.Path.{◌≡◌}
 use Prim.Native.Nat.{◌+◌}
 use native.Mathlib.Numerals.{add-one}

@@ -61,15 +61,19 @@ holds o = o.of-t.ensures.2 _ _ o.spelled-cd.ensures (spelled_is_kept limit _ (ke
 
 pub is_layout-laid-requires : goal.is_layout-laid-requires
 is_layout-laid-requires c =
-    (tables_few limit _ (spells (goal.at.is_layout-laid-requires c).After-of-t) _ (holds (goal.at.is_layout-laid-requires c).After-of-t), subst (λ p. Numbering c.of-t.result.count (at p)) (sym c.plain.ensures) (plain_numbers limit _ (spells (goal.at.is_layout-laid-requires c).After-of-t) _ (holds (goal.at.is_layout-laid-requires c).After-of-t)))
+    let d = (goal.at.is_layout-laid-requires c).After-of-t in
+    (tables_few limit _ (spells d) _ (holds d), subst (λ p. Numbering c.of-t.result.count (at p)) (sym c.plain.ensures) (plain_numbers limit _ (spells d) _ (holds d)))
 
 pub returns-then-not-laid : goal.returns-then-not-laid
 returns-then-not-laid c =
+    let d = (goal.at.returns-then-not-laid c).After-of-t in
     let ne = refutes c.is_layout-laid.ensures (not-true _ c.if-not-laid.true-raw) in
-    (_, no_diagram (long (goal.at.returns-then-not-laid c).After-of-t) (not_laid limit _ (spells (goal.at.returns-then-not-laid c).After-of-t) _ (holds (goal.at.returns-then-not-laid c).After-of-t) (λ e. ne (rw c.plain.ensures e))), c.refused-then-not-laid.ensures)
+    (_, no_diagram (long d) (not_laid limit _ (spells d) _ (holds d) (λ e. ne (rw c.plain.ensures e))), c.refused-then-not-laid.ensures)
 
 pub is_smallest-smallest-requires : goal.is_smallest-smallest-requires
-is_smallest-smallest-requires c = (tables_few limit _ (spells (goal.at.is_smallest-smallest-requires c).After-of-t) _ (holds (goal.at.is_smallest-smallest-requires c).After-of-t), c.of-t.ensures.1)
+is_smallest-smallest-requires c =
+    let d = (goal.at.is_smallest-smallest-requires c).After-of-t in
+    (tables_few limit _ (spells d) _ (holds d), c.of-t.ensures.1)
 
 -- the bytes are the layout as it stands
 laid : (c : Else-not-laid) → c.before.args.s.now ≡ table_layout limit c.of-t.result.count c.of-t.result.kinds c.of-t.result.bits c.of-t.result.pairs (at (plain limit))
@@ -77,10 +81,12 @@ laid c = rw c.plain.ensures at (c.is_layout-laid.ensures.only_when (not-false _ 
 
 pub returns-then-not-smallest : goal.returns-then-not-smallest
 returns-then-not-smallest c =
+    let d = (goal.at.returns-then-not-smallest c).After-of-t in
     let ne = refutes c.is_smallest-smallest.ensures (not-true _ c.if-not-smallest.true-raw) in
-    (_, not_smallest limit _ (spells (goal.at.returns-then-not-smallest c).After-of-t) _ (holds (goal.at.returns-then-not-smallest c).After-of-t) (laid (goal.at.returns-then-not-smallest c).Else-not-laid) ne, c.refused-then-not-smallest.ensures)
+    (_, not_smallest limit _ (spells d) _ (holds d) (laid (goal.at.returns-then-not-smallest c).Else-not-laid) ne, c.refused-then-not-smallest.ensures)
 
 pub returns : goal.returns
 returns c =
+    let d = (goal.at.returns c).After-of-t in
     let found = c.is_smallest-smallest.ensures.only_when (not-false _ c.if-not-smallest.false-raw) in
-    (_, read_smallest limit _ (spells (goal.at.returns c).After-of-t) _ (holds (goal.at.returns c).After-of-t) (laid (goal.at.returns c).Else-not-laid) found, answered _ _ _ c.spelled-cd.ensures)
+    (_, read_smallest limit _ (spells d) _ (holds d) (laid (goal.at.returns c).Else-not-laid) found, answered _ _ _ c.spelled-cd.ensures)

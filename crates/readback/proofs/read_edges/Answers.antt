@@ -1,4 +1,4 @@
--- `readback::read_edges` meets its contract. The invariant: the edges of the first j places are stored; the measure is what is left of n.
+-- `readback::read_edges` meets its contract; Invariants.antt has the argument.
 use mathlib.Core.Path.{◌≡◌}
 use native.Mathlib.Omega.{arith}
 use borrow.Author.Rules.{rules}

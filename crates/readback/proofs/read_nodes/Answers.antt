@@ -1,4 +1,4 @@
--- `readback::read_nodes` meets its contract. The invariant: the array holds the nodes below i; the measure is what is left of n.
+-- `readback::read_nodes` meets its contract; Invariants.antt has the argument.
 use mathlib.Core.Path.{◌≡◌, sym, ap, ◌∙◌, subst}
 use native.Mathlib.Omega.{arith}
 use borrow.Author.Rules.{rules}

@@ -1,5 +1,4 @@
--- `readback::read_row` meets its contract. The invariant: the edges of the places before j, and those of j with the first i, are stored; the measure is what is
--- left of the row. A turn is `edge_read` or `two_read` of proofs/StoredEdges.antt.
+-- `readback::read_row` meets its contract; Invariants.antt has the argument.
 use mathlib.Core.Path.{◌≡◌, sym, ap, ◌∙◌}
 use Prim.Native.Nat.{◌+◌, ◌*◌, ◌≤◌, ◌<◌}
 use native.Mathlib.Omega.{arith}

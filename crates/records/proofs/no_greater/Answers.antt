@@ -1,4 +1,4 @@
--- `records::no_greater` meets its contract. The invariant: the rests stand to each other as the lists do (proofs/Compared.antt).
+-- `records::no_greater` meets its contract; Invariants.antt has the argument.
 use mathlib.Core.Path.{◌≡◌, refl}
 use native.Mathlib.Numerals.{add-one}
 use native.Mathlib.Omega.{arith}

@@ -1,4 +1,4 @@
--- `records::put` meets its contract. The invariant: the bytes passed are written.
+-- `records::put` meets its contract; Invariants.antt has the argument.
 use mathlib.Core.Path.{◌≡◌, refl, sym, ap, ◌∙◌}
 use Prim.Native.Nat.{◌+◌}
 use native.Mathlib.Omega.{arith}

@@ -1,4 +1,4 @@
--- `records::put_count` meets its contract. The invariant: the places passed hold zeros, and all else is as it was.
+-- `records::put_count` meets its contract; Invariants.antt has the argument.
 use mathlib.Core.Path.{◌≡◌, refl, sym, ap, ◌∙◌}
 use Prim.Native.Nat.{◌-◌}
 use native.Mathlib.Omega.{arith}

@@ -1,4 +1,4 @@
--- `records::put_nodes` meets its contract. The invariant: the nodes passed are written.
+-- `records::put_nodes` meets its contract; Invariants.antt has the argument.
 use mathlib.Core.Path.{◌≡◌, refl, sym, ◌∙◌}
 use native.Mathlib.Omega.{arith}
 use lib.ListN.{length-set}

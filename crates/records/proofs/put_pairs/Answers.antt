@@ -1,4 +1,4 @@
--- `records::put_pairs` meets its contract. The invariant: the rows passed are written, and k is where the next one goes.
+-- `records::put_pairs` meets its contract; Invariants.antt has the argument.
 use mathlib.Core.Path.{◌≡◌, refl, sym, ◌∙◌}
 use Prim.Native.Nat.{◌+◌}
 use native.Mathlib.Omega.{arith}

@@ -1,4 +1,4 @@
--- `records::put_row` meets its contract. The invariant: the pairs passed are written.
+-- `records::put_row` meets its contract; Invariants.antt has the argument.
 use mathlib.Core.Path.{◌≡◌, refl, sym, ◌∙◌}
 use native.Mathlib.Omega.{arith}
 use borrow.Author.Rules.{rules}

@@ -1,4 +1,4 @@
--- `records::same` meets its contract. The invariant: the bytes passed are the same.
+-- `records::same` meets its contract; Invariants.antt has the argument.
 use mathlib.Core.Bool.{false≢true}
 use mathlib.Core.Path.{refl, ap}
 use native.Mathlib.Nat.{not-suc-le-zero}

@@ -1,4 +1,4 @@
--- `reflections::of` meets its contract. The invariant: the first i matrices are those of the reflections.
+-- `reflections::of` meets its contract; Invariants.antt has the argument.
 use mathlib.Core.Path.{ap, ◌∙◌}
 use native.Mathlib.Omega.{arith}
 use Rattle.reflections.proofs.Matrices.{made, made_none, made_more, made_all}

@@ -1,4 +1,4 @@
--- `reflections::put_column` meets its contract. The invariant: the first r rows of the column are put.
+-- `reflections::put_column` meets its contract; Invariants.antt has the argument.
 use mathlib.Core.Path.{ap, ◌∙◌}
 use native.Mathlib.Omega.{arith}
 use lib.Ieee.{nan}

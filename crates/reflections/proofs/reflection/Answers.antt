@@ -1,4 +1,4 @@
--- `reflections::reflection` meets its contract. The invariant: the first c columns are those of the reflection.
+-- `reflections::reflection` meets its contract; Invariants.antt has the argument.
 use mathlib.Core.Path.{ap, ◌∙◌}
 use native.Mathlib.Omega.{arith}
 use Rattle.cd.specs.Diagrams.{limit}

@@ -1,4 +1,4 @@
--- `reflections::unit_dot` meets its contract. The invariant: s is the sum of the first r products.
+-- `reflections::unit_dot` meets its contract; Invariants.antt has the argument.
 use mathlib.Core.Path.{ap, ◌∙◌}
 use native.Mathlib.Omega.{arith}
 use lib.Ieee.{nan}

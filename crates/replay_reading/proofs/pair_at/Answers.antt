@@ -1,4 +1,4 @@
--- `replay_reading::pair_at` meets its contract. The invariant: the place is a behind the start of row b.
+-- `replay_reading::pair_at` meets its contract; Invariants.antt has the argument.
 use mathlib.Core.Path.{◌∙◌}
 use native.Mathlib.Omega.{arith}
 use Rattle.cd.proofs.Arrays.{place_falling, place_symmetric}

@@ -1,5 +1,4 @@
--- `scan::parse_edge` meets its contract. The invariant: the run from here on, with the parts so far, reads what the run from `at` on reads; a value kept up to
--- 2 ^ 32 is enough for that, and each turn is the run's law at the byte's sort. The measure is what is left of the length.
+-- `scan::parse_edge` meets its contract; Invariants.antt has the argument.
 use mathlib.Core.Path.{sym, ap, ◌∙◌}
 use native.Mathlib.Omega.{arith}
 use borrow.Author.Rules.{rules}

@@ -1,5 +1,4 @@
--- `scan::skip_whitespace` meets its contract. The invariant: skipping from here leads where skipping from `at` leads. The measure is what is left of the length.
---
+-- `scan::skip_whitespace` meets its contract; Invariants.antt has the argument.
 use mathlib.Core.Path.{sym, ◌∙◌}
 use borrow.Author.Rules.{rules}
 use Rattle.scan.proofs.Spaces.{skip_at_space, skip_at_other, skip_at_end}

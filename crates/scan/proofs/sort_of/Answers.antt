@@ -42,11 +42,11 @@ returns-in_default-3 c =
     let m = c.in_default.in_default-own.rest in
     by_letter _ m.0.1 m.1 false (within_above _ _ _ (omega arith)) (within_above _ _ _ (omega arith))
 
-pub returns-in-32 : goal.returns-in-32
+pub returns-in-40 : goal.returns-in-40
 unfolding sort_of is_digit ends_run within
-returns-in-32 c = ⊎_elim (λ e. rw e) (⊎_elim (λ e. rw e) (λ e. rw e)) c.in-32.in-32-own.keys2
+returns-in-40 c = ⊎_elim (λ e. rw e) (⊎_elim (λ e. rw e) (λ e. rw e)) c.in-40.in-40-own.keys2
 
-pub returns-in-32-2 : goal.returns-in-32-2
-returns-in-32-2 c =
-    let m = c.in-32.in_default-own.rest in
+pub returns-in-40-2 : goal.returns-in-40-2
+returns-in-40-2 c =
+    let m = c.in-40.in_default-own.rest in
     by_letter _ m.0.1 m.1 true (within_above _ _ _ (omega arith)) (within_inside _ _ _ (omega arith) (omega arith))

@@ -1,4 +1,4 @@
--- `shelf::check` meets its contract. The invariant: the places passed are right.
+-- `shelf::check` meets its contract; Invariants.antt has the argument.
 use mathlib.Core.Path.{◌≡◌, refl}
 use Prim.Native.Nat.{◌*◌, ◌/◌}
 use native.Mathlib.Nat.{not-suc-le-zero}

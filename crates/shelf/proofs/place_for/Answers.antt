@@ -1,4 +1,4 @@
--- `shelf::place_for` meets its contract. The invariant: where bisection between `low` and `high` ends, bisection among all places ends.
+-- `shelf::place_for` meets its contract; Invariants.antt has the argument.
 use native.Mathlib.Omega.{arith}
 use Rattle.cd.proofs.Decided.{refutes}
 use Rattle.shelf.specs.Bisects.{none_left}

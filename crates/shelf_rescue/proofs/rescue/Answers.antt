@@ -1,4 +1,4 @@
--- `shelf_rescue::rescue` meets its contract. The invariant: what is saved of the places passed stands in the buffers.
+-- `shelf_rescue::rescue` meets its contract; Invariants.antt has the argument.
 use mathlib.Core.List.{List}
 use mathlib.Core.Logic.{inl, inr}
 use mathlib.Core.Path.{◌≡◌, refl, ◌∙◌, subst}

@@ -1,4 +1,4 @@
--- `tables::bits_of` meets its contract. The invariant: the bits below i are those of the nodes; the measure is what is left of 9.
+-- `tables::bits_of` meets its contract; Invariants.antt has the argument.
 use mathlib.Core.Path.{◌≡◌, refl}
 use native.Mathlib.Omega.{arith}
 use borrow.Author.Rules.{rules}

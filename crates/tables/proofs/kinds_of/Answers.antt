@@ -1,4 +1,4 @@
--- `tables::kinds_of` meets its contract. The invariant: the kinds below i are those of the nodes; the measure is what is left of 9.
+-- `tables::kinds_of` meets its contract; Invariants.antt has the argument.
 use mathlib.Core.Path.{◌≡◌, refl}
 use native.Mathlib.Omega.{arith}
 use borrow.Author.Rules.{rules}

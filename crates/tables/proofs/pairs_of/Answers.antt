@@ -1,4 +1,4 @@
--- `tables::pairs_of` meets its contract. The invariant: at each place below k stands the number of its pair; the measure is what is left of the rows.
+-- `tables::pairs_of` meets its contract; Invariants.antt has the argument.
 use Prim.Native.Nat.{◌+◌, ◌*◌, ◌/◌, ◌%◌}
 use mathlib.Core.Path.{◌≡◌, ap, ◌∙◌}
 use native.Mathlib.Numerals.{add-one}

@@ -1,4 +1,4 @@
--- `cox::families::family_matrix` meets its contract. The invariant: the first k numbers are the family's; the measure is what is left of 81.
+-- `cox::families::family_matrix` meets its contract; Invariants.antt has the argument.
 use mathlib.Core.Path.{refl, ap, ◌∙◌}
 use native.Mathlib.Omega.{arith}
 use borrow.Author.Rules.{rules}

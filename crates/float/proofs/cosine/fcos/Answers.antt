@@ -1,4 +1,4 @@
--- `float::cosine::fcos` meets its contract. The invariant: the steps that are left, from the present h, give the whole scheme's answer.
+-- `float::cosine::fcos` meets its contract; Invariants.antt has the argument.
 use mathlib.Core.Path.{◌≡◌, refl, ap, ◌∙◌}
 use Prim.Native.Nat.{ℕ, zero, suc, ◌-◌, ◌*◌, ◌≤◌, ◌<◌}
 use native.Mathlib.Nat.{mul-le-mul, lt_of_le_of_lt, lt_irrefl}

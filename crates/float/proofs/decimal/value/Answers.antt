@@ -49,4 +49,5 @@ returns-then-p-ge0 c = rw (c.ten.ensures, to_z-of_z c.ranges.p) (up_value _ _ (u
 pub returns-else-p-ge0 : goal.returns-else-p-ge0
 unfolding whole
 returns-else-p-ge0 c =
-    rw (c.ten-else-p-ge0.ensures, to_z-of_z c.ranges.p, to_z-of_z (minus_fits _ c.requires.1 (down (goal.at.returns-else-p-ge0 c).Else-p-ge0))) (down_value _ _ (down (goal.at.returns-else-p-ge0 c).Else-p-ge0))
+    let d = (goal.at.returns-else-p-ge0 c).Else-p-ge0 in
+    rw (c.ten-else-p-ge0.ensures, to_z-of_z c.ranges.p, to_z-of_z (minus_fits _ c.requires.1 (down d))) (down_value _ _ (down d))

@@ -1,4 +1,4 @@
--- `float::root::normal` meets its contract. The invariant: m is m0 moved up by as many places as a has come down.
+-- `float::root::normal` meets its contract; Invariants.antt has the argument.
 use mathlib.Core.Path.{sym, ap, ◌∙◌}
 use Prim.Native.Nat.{ℕ, ◌*◌, ◌^◌, ◌<◌}
 use native.Mathlib.Nat.{mul-one, sub_self}

@@ -1,4 +1,4 @@
--- `float::root::root_by_digits` meets its contract. The invariant: the radicand's digits so far are root * root + rest, those left stand in `left`, at the top of the word.
+-- `float::root::root_by_digits` meets its contract; Invariants.antt has the argument.
 use mathlib.Core.Path.{◌≡◌, ap, ◌∙◌}
 use Prim.Native.Nat.{ℕ, ◌*◌, ◌^◌}
 use native.Mathlib.Omega.{arith}

@@ -1,4 +1,4 @@
--- `lines::spelled::digest` meets its contract: what is left by the modulus never overflows.
+-- `lines::spelled::digest` meets its contract; Invariants.antt has the argument.
 use native.Mathlib.Omega.{arith}
 use Rattle.lines.proofs.spelled.digest.Goals as goal
 
