@@ -5,8 +5,7 @@
 ghost use Rattle.std.specs.Prelude.{◌≡◌};
 ghost use Rattle.parse.specs.Reading.{high, read_from, read, answer};
 
-use cd::CdError;
-use parse::Read;
+use cd::{Cd, CdError};
 
 // The place of the first byte of 128 or more, or the length.
 pub fn not_ascii(s: &[u8]) -> usize
@@ -24,18 +23,18 @@ pub fn not_ascii(s: &[u8]) -> usize
 }
 
 // The diagram of the text from `at` on, or what refuses it.
-pub fn parse_from(s: &[u8], at: usize, wish: bool) -> Read
+pub fn parse_from(s: &[u8], at: usize, wish: bool) -> Result<Cd, CdError>
     ensures { result ≡ answer (read_from wish s.now at) }
 {
     if 255 < s.len() {
-        return parse::refused(CdError::TooLong { pos: 255 });
+        return Err(CdError::TooLong { pos: 255 });
     }
     let high = not_ascii(s);
     if high < s.len() {
-        return parse::refused(CdError::NotAscii { pos: high });
+        return Err(CdError::NotAscii { pos: high });
     }
     if s.len() < at {
-        return parse::refused(CdError::UnexpectedEnding { pos: at });
+        return Err(CdError::UnexpectedEnding { pos: at });
     }
     parse::read_text(s, at, wish)
 }
@@ -58,14 +57,14 @@ pub fn new<'a>(diagram: &'a [u8], wish: bool) -> CdBuilder<'a>
 }
 
 // The diagram of what is left, or what refuses it.
-pub fn build<'a>(b: CdBuilder<'a>) -> Read
+pub fn build<'a>(b: CdBuilder<'a>) -> Result<Cd, CdError>
     ensures { result ≡ answer (read_from b.entry.wish b.entry.diagram.now b.entry.at) }
 {
     parse_from(b.diagram, b.at, b.wish)
 }
 
 // The diagram of a text, or what refuses it: `Cd::parse`.
-pub fn parse(text: &[u8], wish: bool) -> Read
+pub fn parse(text: &[u8], wish: bool) -> Result<Cd, CdError>
     ensures { result ≡ answer (read wish text.now) }
 {
     build(new(text, wish))

@@ -2,5 +2,4 @@
 mod JoinLaws
 pub mod KeptEdges
 mod Turns
-pub mod Answered
 pub mod Outcomes

@@ -1,6 +1,7 @@
 -- The loop that reads a text, in the terms of its locals: what is read from here on gives what the whole text gives (`Due` before a node, `After` behind
 -- one). Each turn reads a byte, so the turns allowed, at first the length of the text, never run out. The code's queue has edges in lowest terms;
 -- `typed` is the queue as document 01 has it. Assumes nothing.
+use Rattle.std.specs.Prelude.{Result, Ok}
 use Prim.Native.Nat.{ℕ, zero, suc, ◌+◌, ◌*◌, ◌≤◌, ◌<◌}
 use mathlib.Core.Bool.{Bool}
 use mathlib.Core.List.{List, [], ◌∷◌, ◌++◌, map, map-append}
@@ -14,6 +15,7 @@ use lib.Seq.{length-take-le, take-suc-set}
 use Rattle.float.specs.Pick.{pick}
 use Rattle.cd.specs.Arrays.{padded, triangle}
 use Rattle.cd.specs.Diagrams.{Stored, between, limit, place, cd_of}
+use Rattle.cd.specs.declared.Cd.{Cd}
 use Rattle.cd.specs.declared.CdError.{CdError}
 use Rattle.cd.specs.declared.CdError.TheVariants.{TooManyNodes}
 use Rattle.cd.specs.declared.Edge.{Edge}
@@ -39,7 +41,6 @@ use Rattle.parse.specs.Joining.{join_all}
 use Rattle.parse.specs.Joining as joining
 use Rattle.parse.specs.Reading.{answer, joined, kept, with_edges}
 use Rattle.parse.specs.Reading as gives
-use Rattle.parse.specs.declared.Answer.TheVariants.{Accepted}
 use Rattle.parse.specs.declared.Queue.{Queue}
 use Rattle.node.specs.declared.NodeRead.{NodeRead}
 use Rattle.node.specs.declared.NodeRead.TheVariants as node
@@ -356,14 +357,14 @@ module _ {wish : Bool} {s : List ℕ} {start : ℕ} {nodes : List Place} {count 
 
   -- nodes in their places, and the edges stored, are the diagram
   pub join_accepted : (es : List Stored) → join_all count (waits q) 0 [] ≡ joining.Edges es
-      → record { answer = Accepted; cd = record { nodes = nodes; count = count; pairs = triangle (between 1 es) limit; edges = length es } } ≡ answer (kept (joined (text_from wish s start)))
+      → ◌≡◌ {A = Result Cd CdError} (Ok (record { nodes = nodes; count = count; pairs = triangle (between 1 es) limit; edges = length es })) (answer (kept (joined (text_from wish s start))))
   unfolding with_edges answer cd_of
   join_accepted es h =
       let l : map place (held nodes count) ≡ take count nodes = same_places (take count nodes) in
       let g : kept (joined (text_from wish s start)) ≡ gives.Accepted (held nodes count) es = e.gives ∙ ap (with_edges (held nodes count)) h in
       let c = held_long nodes count e.places e.few in
-      ap (λ (x : List Place). record { answer = Accepted; cd = record { nodes = x; count = count; pairs = triangle (between 1 es) limit; edges = length es } })
+      ap (λ (x : List Place). Ok (record { nodes = x; count = count; pairs = triangle (between 1 es) limit; edges = length es }))
       (e.places ∙ ap (padded (place Unringed) limit) (sym l))
-      ∙ ap (λ (n : ℕ). record { answer = Accepted; cd = record { nodes = padded (place Unringed) limit (map place (held nodes count)); count = n; pairs = triangle (between 1 es) limit; edges = length es } })
+      ∙ ap (λ (n : ℕ). Ok (record { nodes = padded (place Unringed) limit (map place (held nodes count)); count = n; pairs = triangle (between 1 es) limit; edges = length es }))
       (sym c)
       ∙ ap answer (sym g)

@@ -1,8 +1,9 @@
 -- Document 01, "Reading" and "What each operation refuses", Text: what a text is read as. Document 02, K2: the edges kept; K6: the wish.
-use Rattle.std.specs.Prelude.{ℕ, ◌+◌, Bool, List, [], ◌∷◌, map, ltb, leb, length}
+use Rattle.std.specs.Prelude.{ℕ, ◌+◌, Bool, List, [], ◌∷◌, map, ltb, leb, length, Result, Ok, Err}
 use Rattle.float.specs.Pick.{pick}
 use Rattle.cd.specs.Diagrams.{Stored, cd_of}
 use Rattle.cd.specs.Edges.{reduced}
+use Rattle.cd.specs.declared.Cd.{Cd}
 use Rattle.cd.specs.declared.CdError.{CdError}
 use Rattle.cd.specs.declared.CdError.TheVariants.{TooLong, NotAscii}
 use Rattle.cd.specs.declared.Node.{Node}
@@ -10,8 +11,6 @@ use Rattle.parse.specs.Text.{Outcome, text_from}
 use Rattle.parse.specs.Text as text
 use Rattle.parse.specs.Joining.{Joined, join_all}
 use Rattle.parse.specs.Joining as joining
-use Rattle.parse.specs.declared.Answer.TheVariants as said
-use Rattle.parse.specs.declared.Read.{Read}
 
 -- a diagram, "its nodes in the order read, with the edges stored", or a refusal
 pub data Reading : Type 0 where
@@ -63,8 +62,8 @@ unfoldable pub read : Bool → List ℕ → Reading
 unfolding read_from
 read wish s = read_from wish s 0
 
--- ---- how the code answers: a refusal carries the diagram without nodes
-unfoldable pub answer : Reading → Read
+-- ---- how the code answers
+unfoldable pub answer : Reading → Result Cd CdError
 unfolding cd_of
-answer (Accepted ns es) = record { answer = said.Accepted; cd = cd_of ns es }
-answer (Refused r) = record { answer = said.Refused r; cd = cd_of [] [] }
+answer (Accepted ns es) = Ok (cd_of ns es)
+answer (Refused r) = Err r

@@ -3,7 +3,7 @@
 
 ghost use Rattle.std.specs.Prelude.{◌≡◌, ◌≤◌, length};
 ghost use Rattle.parse.specs.Text.{text_from};
-ghost use Rattle.parse.specs.Reading.{Reading, joined, kept, answer};
+ghost use Rattle.parse.specs.Reading.{joined, kept, answer};
 
 use cd::{Cd, CdError, Edge, EdgeRef, Ends, LIMIT, Node, NodeRef, PAIRS, Pair, Place};
 use node::NodeRead;
@@ -16,43 +16,9 @@ pub struct Queue {
     pub count: usize,
 }
 
-#[derive(Clone, Copy)]
-pub enum Answer {
-    Accepted,
-    Refused(CdError),
-}
-
-// A diagram, or a refusal with the diagram without nodes.
-#[derive(Clone, Copy)]
-pub struct Read {
-    pub answer: Answer,
-    pub cd: Cd,
-}
-
-pub fn refused(r: CdError) -> Read
-    ensures { result ≡ answer (Reading.Refused r) }
-{
-    let place = Place {
-        node: Node::Unringed,
-    };
-    let none = Pair {
-        rank: 0,
-        edge: Edge { num: 0, den: 0 },
-    };
-    Read {
-        answer: Answer::Refused(r),
-        cd: Cd {
-            nodes: [place; LIMIT],
-            count: 0,
-            pairs: [none; PAIRS],
-            edges: 0,
-        },
-    }
-}
-
 // The text from `start` on, with the wish for infinite lengths or without it: a node, then, while bytes remain, an optional edge and a node; then the queue joined in order. (One
 // function, since nodes and queue are locals that are stored in place: to hand them on copies them, a quarter of a short text's time.)
-pub fn read_text(s: &[u8], start: usize, wish: bool) -> Read
+pub fn read_text(s: &[u8], start: usize, wish: bool) -> Result<Cd, CdError>
     requires { (start ≤ length s.now) × (length s.now ≤ 255) }
     ensures { result ≡ answer (kept (joined (text_from wish s.now start))) }
 {
@@ -82,7 +48,7 @@ pub fn read_text(s: &[u8], start: usize, wish: bool) -> Read
         let mut next = i;
         match node::create_node(s, i, wish) {
             NodeRead::Refused(r) => {
-                return refused(r);
+                return Err(r);
             }
             NodeRead::Referred(r, to) => {
                 this = r;
@@ -90,7 +56,7 @@ pub fn read_text(s: &[u8], start: usize, wish: bool) -> Read
             }
             NodeRead::Added(n, to) => {
                 if LIMIT <= count {
-                    return refused(CdError::TooManyNodes { pos: i });
+                    return Err(CdError::TooManyNodes { pos: i });
                 }
                 this = NodeRef::Absolute(count as u8);
                 nodes[count] = Place { node: n };
@@ -121,7 +87,7 @@ pub fn read_text(s: &[u8], start: usize, wish: bool) -> Read
                 at = to;
             }
             EdgeRead::Refused(r) => {
-                return refused(r);
+                return Err(r);
             }
         }
     }
@@ -138,7 +104,7 @@ pub fn read_text(s: &[u8], start: usize, wish: bool) -> Read
         let e = queue.at[k];
         match cd::indices(e, count) {
             Ends::Missing => {
-                return refused(CdError::MissingNode { edge: k });
+                return Err(CdError::MissingNode { edge: k });
             }
             Ends::Dropped => {
                 k += 1;
@@ -147,7 +113,7 @@ pub fn read_text(s: &[u8], start: usize, wish: bool) -> Read
                 let p = cd::pair_place(a, b);
                 let was = pairs[p];
                 if 0 < was.rank {
-                    return refused(CdError::RepeatEdge { a: a, b: b });
+                    return Err(CdError::RepeatEdge { a: a, b: b });
                 }
                 let edge = e.edge;
                 edges += 1;
@@ -159,13 +125,10 @@ pub fn read_text(s: &[u8], start: usize, wish: bool) -> Read
             }
         }
     }
-    Read {
-        answer: Answer::Accepted,
-        cd: Cd {
-            nodes: nodes,
-            count: count,
-            pairs: pairs,
-            edges: edges,
-        },
-    }
+    Ok(Cd {
+        nodes,
+        count,
+        pairs,
+        edges,
+    })
 }

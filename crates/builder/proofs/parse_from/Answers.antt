@@ -6,17 +6,18 @@ use Rattle.builder.proofs.ReadLaws.{too_long, not_low, low, beyond}
 use Rattle.builder.proofs.parse_from.Goals as goal
 
 pub returns-then-s-gt255 : goal.returns-then-s-gt255
-returns-then-s-gt255 c = c.refused.ensures ∙ ap answer (sym (too_long _ _ _ c.if-s-gt255.true))
+unfolding answer
+returns-then-s-gt255 c = ap answer (sym (too_long _ _ _ c.if-s-gt255.true))
 
 pub returns-then-high-s : goal.returns-then-high-s
+unfolding answer
 returns-then-high-s c =
-    c.refused-then-high-s.ensures ∙ ap answer (sym (not_low _ _ _ _ c.if-s-gt255.false c.not_ascii-high.ensures c.if-high-s.true))
+    ap answer (sym (not_low _ _ _ _ c.if-s-gt255.false c.not_ascii-high.ensures c.if-high-s.true))
 
 pub returns-then-s-at : goal.returns-then-s-at
-unfolding joined kept
+unfolding joined kept answer
 returns-then-s-at c =
-    c.refused-then-s-at.ensures
-    ∙ ap answer (sym (ap (λ (o : Outcome). kept (joined o)) (beyond _ _ _ c.if-s-at.true))) ∙ ap answer (sym (low _ _ _ _ c.if-s-gt255.false c.not_ascii-high.ensures c.if-high-s.false))
+    ap answer (sym (ap (λ (o : Outcome). kept (joined o)) (beyond _ _ _ c.if-s-at.true))) ∙ ap answer (sym (low _ _ _ _ c.if-s-gt255.false c.not_ascii-high.ensures c.if-high-s.false))
 
 pub returns : goal.returns
 returns c =

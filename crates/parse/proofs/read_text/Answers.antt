@@ -54,14 +54,14 @@ pub skip_whitespace-i-requires : goal.skip_whitespace-i-requires
 skip_whitespace-i-requires c = c.loop-r.invariant.upto
 
 pub returns-in-Refused : goal.returns-in-Refused
-unfolding joined kept
+unfolding joined kept answer
 returns-in-Refused c =
-    c.refused.ensures ∙ sym (ap (λ (o : Outcome). answer (kept (joined o))) (node_refused c.loop-r.invariant _ _ c.skip_whitespace-i.ensures.0 c.skip_whitespace-i.ensures.2 c.skip_whitespace-i.ensures.1 c.create_node.ensures _ c.in-Refused.is))
+    sym (ap (λ (o : Outcome). answer (kept (joined o))) (node_refused c.loop-r.invariant _ _ c.skip_whitespace-i.ensures.0 c.skip_whitespace-i.ensures.2 c.skip_whitespace-i.ensures.1 c.create_node.ensures _ c.in-Refused.is))
 
 pub returns-then-count-ge-LIMIT : goal.returns-then-count-ge-LIMIT
-unfolding joined kept
+unfolding joined kept answer
 returns-then-count-ge-LIMIT c =
-    c.refused-then-count-ge-LIMIT.ensures ∙ sym (ap (λ (o : Outcome). answer (kept (joined o))) (node_tenth c.loop-r.invariant _ _ c.skip_whitespace-i.ensures.0 c.skip_whitespace-i.ensures.2 c.skip_whitespace-i.ensures.1 c.create_node.ensures _ _ c.in-Added.is c.if-count-ge-LIMIT.true))
+    sym (ap (λ (o : Outcome). answer (kept (joined o))) (node_tenth c.loop-r.invariant _ _ c.skip_whitespace-i.ensures.0 c.skip_whitespace-i.ensures.2 c.skip_whitespace-i.ensures.1 c.create_node.ensures _ _ c.in-Added.is c.if-count-ge-LIMIT.true))
 
 pub create_edge-requires : goal.create_edge-requires
 create_edge-requires c = let a = behind (goal.at.create_edge-requires c).Joined-edge-gt0 in (omega (arith, a.ahead), a.upto)
@@ -84,9 +84,9 @@ loop-r-preserved c =
     (an_edge (behind (goal.at.loop-r-preserved c).Joined-edge-gt0) (omega (arith, c.if-s-next.false)) _ c.create_edge.ensures _ _ c.in-Read.is).0
 
 pub returns-in-Refused-create_edge : goal.returns-in-Refused-create_edge
-unfolding joined kept
+unfolding joined kept answer
 returns-in-Refused-create_edge c =
-    c.refused-in-Refused-create_edge.ensures ∙ sym (ap (λ (o : Outcome). answer (kept (joined o))) (edge_refused (behind (goal.at.returns-in-Refused-create_edge c).Joined-edge-gt0) (omega (arith, c.if-s-next.false)) _ c.create_edge.ensures _ c.in-Refused-create_edge.is))
+    sym (ap (λ (o : Outcome). answer (kept (joined o))) (edge_refused (behind (goal.at.returns-in-Refused-create_edge c).Joined-edge-gt0) (omega (arith, c.if-s-next.false)) _ c.create_edge.ensures _ c.in-Refused-create_edge.is))
 
 pub loop-k-init : goal.loop-k-init
 loop-k-init c = (
@@ -98,9 +98,10 @@ loop-k-init c = (
 )
 
 pub returns-in-Missing : goal.returns-in-Missing
+unfolding answer
 returns-in-Missing c =
     let i = c.loop-k.invariant in
-    c.refused-in-Missing.ensures ∙ join_refused i.4 _ (missing i.3 _ (next (goal.at.returns-in-Missing c).In-loop-k) _ c.indices.ensures c.in-Missing.is)
+    join_refused i.4 _ (missing i.3 _ (next (goal.at.returns-in-Missing c).In-loop-k) _ c.indices.ensures c.in-Missing.is)
 
 pub loop-k-preserved-in-Dropped : goal.loop-k-preserved-in-Dropped
 loop-k-preserved-in-Dropped c =
@@ -114,10 +115,10 @@ pair_place-p-requires c =
     (omega (arith, b, n), omega (arith, b, n))
 
 pub returns-then-was-gt0 : goal.returns-then-was-gt0
+unfolding answer
 returns-then-was-gt0 c =
     let i = c.loop-k.invariant in
-    c.refused-then-was-gt0.ensures
-    ∙ join_refused i.4 _ (repeated i.3 _ (next (goal.at.returns-then-was-gt0 c).In-loop-k) _ c.indices.ensures _ _ c.in-Both.is i.4.few _ c.pair_place-p.ensures.0 none c.if-was-gt0.true)
+    join_refused i.4 _ (repeated i.3 _ (next (goal.at.returns-then-was-gt0 c).In-loop-k) _ c.indices.ensures _ _ c.in-Both.is i.4.few _ c.pair_place-p.ensures.0 none c.if-was-gt0.true)
 
 pub loop-k-preserved : goal.loop-k-preserved
 loop-k-preserved c =
