@@ -6,9 +6,11 @@ use Prim.Native.Nat.{ℕ, suc, ◌+◌, ◌-◌, ◌*◌, ◌<◌, ◌≤◌}
 use native.Mathlib.Nat.{sub-zero}
 use native.Mathlib.Numerals.{add-one}
 use native.Mathlib.Omega.{arith}
+use Rattle.std.specs.Prelude.{Ok, Err}
 use lib.Ieee.{Float, binary64, of_bits, le, neg}
 use lib.ListN.{set}
 use Rattle.cd.specs.Diagrams.{limit}
+use Rattle.cd.specs.declared.CdError.TheVariants.{Crowded}
 use Rattle.float.specs.Constants.{π, tolerance}
 use Rattle.float.specs.Cosine.{cos_of}
 use Rattle.float.specs.Numbers.{◌-ᶠ◌, ◌/ᶠ◌}
@@ -17,9 +19,8 @@ use Rattle.float.specs.Root.{root_of}
 use Rattle.cox.specs.Squares.{Square, one, zeros, put, dot, flat_square}
 use Rattle.cox.proofs.Flats.{square_put}
 use Rattle.cox.proofs.Sums.{one_literal}
-use Rattle.normals.specs.Mirrors.{cosine, row, rows, Columns, Refused, columns, mirrors}
+use Rattle.normals.specs.Mirrors.{cosine, row, rows, Mirrors, Columns, Refused, columns, mirrors}
 use Rattle.normals.specs.Shown.{mirrors_of}
-use Rattle.normals.specs.declared.Fit.TheVariants as fit
 
 -- 1.0, PI and EPS, as the code has them
 abbrev pub unit : Float
@@ -109,10 +110,10 @@ module _ (w : Bool) (N : ℕ) (e : Square) (n i : ℕ) (m : List Float) (t : Tow
 
 -- ---- the answer, as the code holds it
 
-pub refusal_shown : (n i : ℕ) (l : List Float) → l ≡ flat_square limit zeros → record { fit = fit.Crowded i; columns = l; count = n } ≡ mirrors_of n (Refused i)
+pub refusal_shown : (x : Mirrors) (i : ℕ) → Refused i ≡ x → Err (Crowded i) ≡ mirrors_of x
 unfolding mirrors_of
-refusal_shown n i l e = ap (λ z. record { fit = fit.Crowded i; columns = z; count = n }) e
+refusal_shown x i e = ap mirrors_of e
 
-pub columns_shown : (n : ℕ) (f : Square) (l : List Float) → l ≡ flat_square limit f → record { fit = fit.Spherical; columns = l; count = n } ≡ mirrors_of n (Columns f)
+pub columns_shown : (x : Mirrors) (f : Square) (l : List Float) → l ≡ flat_square limit f → Columns f ≡ x → Ok l ≡ mirrors_of x
 unfolding mirrors_of
-columns_shown n f l e = ap (λ z. record { fit = fit.Spherical; columns = z; count = n }) e
+columns_shown x f l h e = ap Ok h ∙ ap mirrors_of e

@@ -1,12 +1,12 @@
--- How the code holds mirrors: a refusal carries zeros.
-use Rattle.std.specs.Prelude.{ℕ}
+-- How the code holds mirrors: as columns in one array, or as document 01's refusal 15.
+use Rattle.std.specs.Prelude.{List, Float, Result, Ok, Err}
 use Rattle.cd.specs.Diagrams.{limit}
-use Rattle.cox.specs.Squares.{zeros, flat_square}
+use Rattle.cd.specs.declared.CdError.{CdError}
+use Rattle.cd.specs.declared.CdError.TheVariants.{Crowded}
+use Rattle.cox.specs.Squares.{flat_square}
 use Rattle.normals.specs.Mirrors.{Mirrors, Columns, Refused}
-use Rattle.normals.specs.declared.Fit.TheVariants as fit
-use Rattle.normals.specs.declared.Mirrors as declared
 
-unfoldable pub mirrors_of : ℕ → Mirrors → declared.Mirrors
+unfoldable pub mirrors_of : Mirrors → Result (List Float) CdError
 unfolding flat_square
-mirrors_of n (Columns m) = record { fit = fit.Spherical; columns = flat_square limit m; count = n }
-mirrors_of n (Refused i) = record { fit = fit.Crowded i; columns = flat_square limit zeros; count = n }
+mirrors_of (Columns m) = Ok (flat_square limit m)
+mirrors_of (Refused i) = Err (Crowded i)
