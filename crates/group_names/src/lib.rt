@@ -7,7 +7,6 @@ ghost use Rattle.filing.specs.Factorials.{factorial};
 ghost use Rattle.group_names.specs.Names.{is_name, rank as the_rank, entry as the_entry, written as the_written, order as the_order};
 
 use cd::LIMIT;
-use parse::Answer;
 
 // A, B and D with their size, I2 with its p.
 #[derive(Clone, Copy)]
@@ -39,10 +38,9 @@ pub struct Group {
     pub order: u64,
 }
 
-// The components by rising lowest node, the first `count` of `at`, or what refuses them.
+// The components by rising lowest node: the first `count` of `at`.
 #[derive(Clone, Copy)]
 pub struct Groups {
-    pub answer: Answer,
     pub at: [Group; LIMIT],
     pub count: usize,
 }
