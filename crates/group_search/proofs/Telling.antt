@@ -5,13 +5,12 @@ use Prim.Native.Nat.{ℕ, zero, suc, ◌+◌, ◌*◌, ◌^◌, ◌<◌}
 use native.Mathlib.Decide.{dec_lt}
 use native.Mathlib.Omega.{arith}
 use lib.ListN.{get_or}
+use Rattle.std.specs.Prelude.{Option, Some, None}
 use Rattle.filing.specs.Numberings.{at}
 use Rattle.group_names.specs.Names.{rank}
 use Rattle.group_names.specs.declared.Name.{Name}
 use Rattle.group_names.specs.declared.Name.TheVariants.{A, B, D, E6, E7, E8, F4, H3, H4, I2}
 use Rattle.group_names.proofs.NamesRight.{edges_I2}
-use Rattle.group_search.specs.declared.Known.{Known}
-use Rattle.group_search.specs.declared.Known.TheVariants.{Is, Nothing}
 use Rattle.group_search.specs.Steps.{whole_number, Embeds, label_count, Placed, Bond, alone, bound, Mirrored, candidates, Takes, Tells, is, nothing}
 use Rattle.group_search.proofs.Placing.{label_onto}
 
@@ -84,16 +83,16 @@ module _ {N n c m : ℕ} {pairs of : List ℕ} (inside : c < n) (mirrored : Mirr
 
 -- ---- what is told
 
-pub told : {N n c m : ℕ} {pairs of : List ℕ} {x : Name} {r : Known} → m ≡ label_count of c n → Placed N pairs of n c m x → r ≡ Is x → Tells N pairs of n c r
+pub told : {N n c m : ℕ} {pairs of : List ℕ} {x : Name} {r : Option Name} → m ≡ label_count of c n → Placed N pairs of n c m x → r ≡ Some x → Tells N pairs of n c r
 told {N} {n} {c} {m} {pairs} {of} {x} e p q = is (subst (λ k. Placed N pairs of n c k x) e p) q
 
-pub told_nothing : {N n c m : ℕ} {pairs of : List ℕ} {r : Known} → m ≡ label_count of c n → ((x : Name) → Placed N pairs of n c m x → ⊥) → r ≡ Nothing → Tells N pairs of n c r
+pub told_nothing : {N n c m : ℕ} {pairs of : List ℕ} {r : Option Name} → m ≡ label_count of c n → ((x : Name) → Placed N pairs of n c m x → ⊥) → r ≡ None → Tells N pairs of n c r
 told_nothing {N} {n} {c} {m} {pairs} {of} e none q = nothing (λ x p. none x (subst (λ k. Placed N pairs of n c k x) (sym e) p)) q
 
-pub told_name : {N n c : ℕ} {pairs of : List ℕ} {y : Name} {r : Known} → Tells N pairs of n c r → r ≡ Is y → Takes N pairs of n c y
-told_name {N} {n} {c} {pairs} {of} {y} (is {x} t e) q = let s : x ≡ y = cc in subst (λ z. Takes N pairs of n c z) s t
-told_name (nothing none e) q = let z : ◌≡◌ {A = ℕ} 0 1 = (cc) in let o : ⊥ = omega arith in absurd o
+pub told_name : {N n c : ℕ} {pairs of : List ℕ} {y : Name} → Tells N pairs of n c (Some y) → Takes N pairs of n c y
+told_name {N} {n} {c} {pairs} {of} {y} (is {x} t e) = let s : x ≡ y = cc in subst (λ z. Takes N pairs of n c z) s t
+told_name (nothing none e) = cc
 
-pub told_none : {N n c : ℕ} {pairs of : List ℕ} {r : Known} → Tells N pairs of n c r → r ≡ Nothing → (x : Name) → Takes N pairs of n c x → ⊥
-told_none (is t e) q = let z : ◌≡◌ {A = ℕ} 0 1 = (cc) in let o : ⊥ = omega arith in absurd o
-told_none (nothing none e) q = none
+pub told_none : {N n c : ℕ} {pairs of : List ℕ} → Tells N pairs of n c None → (x : Name) → Takes N pairs of n c x → ⊥
+told_none (is t e) = cc
+told_none (nothing none e) = none

@@ -1,17 +1,13 @@
 -- What the steps of naming promise each other, over labels and the table of pairs. No public promise leans on this file. N is the limit of nodes.
-use Rattle.std.specs.Prelude.{true, List, [], ◌∷◌, ◌++◌, ◌≢◌, ◌≡◌, ℕ, zero, suc, ◌+◌, ◌*◌, ◌/◌, ◌^◌, ◌≤◌, ◌<◌, eqb, length}
-use Rattle.cd.specs.declared.CdError.TheVariants.{NoName}
+use Rattle.std.specs.Prelude.{true, List, [], ◌∷◌, ◌++◌, ◌≢◌, ◌≡◌, ℕ, zero, suc, ◌+◌, ◌*◌, ◌/◌, ◌^◌, ◌≤◌, ◌<◌, eqb, length, Option, Some, None}
 use Rattle.float.specs.Pick.{pick}
 use Rattle.filing.specs.Numberings.{at}
 use Rattle.filing.specs.Sequences.{Agree}
-use Rattle.group_names.specs.Named.{group, listing, refusal}
+use Rattle.group_names.specs.Named.{group}
 use Rattle.group_names.specs.Names.{is_name, rank, entry}
 use Rattle.group_names.specs.declared.Group.{Group}
-use Rattle.group_names.specs.declared.Groups.{Groups}
 use Rattle.group_names.specs.declared.Name.{Name}
 use Rattle.group_names.specs.declared.Name.TheVariants.{A, B, D, E6, E7, E8, F4, H3, H4, I2}
-use Rattle.group_search.specs.declared.Known.{Known}
-use Rattle.group_search.specs.declared.Known.TheVariants.{Is, Nothing}
 
 -- ---- the search
 
@@ -81,9 +77,9 @@ abbrev pub Takes : ℕ → List ℕ → List ℕ → ℕ → ℕ → Name → Ty
 Takes N pairs of n c x = Placed N pairs of n c (label_count of c n) x
 
 -- what is known of a component's name
-pub data Tells (N : ℕ) (pairs of : List ℕ) (n c : ℕ) (r : Known) : Type 0 where
-  is : {x : Name} → Takes N pairs of n c x → r ≡ Is x → Tells N pairs of n c r
-  nothing : ((x : Name) → Takes N pairs of n c x → ⊥) → r ≡ Nothing → Tells N pairs of n c r
+pub data Tells (N : ℕ) (pairs of : List ℕ) (n c : ℕ) (r : Option Name) : Type 0 where
+  is : {x : Name} → Takes N pairs of n c x → r ≡ Some x → Tells N pairs of n c r
+  nothing : ((x : Name) → Takes N pairs of n c x → ⊥) → r ≡ None → Tells N pairs of n c r
 
 -- ---- the components, one after another
 
@@ -92,9 +88,3 @@ pub data Walks (N : ℕ) (pairs of : List ℕ) (n : ℕ) : ℕ → List Group �
   none : Walks N pairs of n zero []
   passed : {k : ℕ} {gs : List Group} → Walks N pairs of n k gs → at of k ≢ k → Walks N pairs of n (suc k) gs
   listed : {k : ℕ} {gs : List Group} {x : Name} → Walks N pairs of n k gs → at of k ≡ k → Takes N pairs of n k x → Walks N pairs of n (suc k) (gs ++ (group k x ∷ []))
-
--- node c is met after the list gs
-pub data Meets (N : ℕ) (pairs of : List ℕ) (n c : ℕ) (gs : List Group) (r : Groups) : Type 0 where
-  passed : at of c ≢ c → r ≡ listing gs → Meets N pairs of n c gs r
-  listed : {x : Name} → at of c ≡ c → Takes N pairs of n c x → r ≡ listing (gs ++ (group c x ∷ [])) → Meets N pairs of n c gs r
-  nameless : at of c ≡ c → ((x : Name) → Takes N pairs of n c x → ⊥) → r ≡ refusal (NoName c) → Meets N pairs of n c gs r

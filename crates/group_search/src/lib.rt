@@ -10,14 +10,12 @@ ghost use Rattle.cd.specs.declared.Node.{Node};
 ghost use Rattle.filing.specs.Numberings.{at};
 ghost use Rattle.tables.specs.Diagrams.{diagram};
 ghost use Rattle.tables.specs.Tables.{IsKept};
-ghost use Rattle.group_names.specs.declared.Group.{Group as AGroup};
 ghost use Rattle.group_names.specs.declared.Name.{Name as AName};
-ghost use Rattle.group_names.specs.Named.{blank, listing, refusal as the_refusal, Names};
-ghost use Rattle.group_search.specs.Steps.{whole_number, Wants, Suits, GoesOn, Ready, label_count, Placed, Bond, Mirrored, candidates as the_candidates, Tells, Meets};
+ghost use Rattle.group_names.specs.Named.{blank, listing, Names};
+ghost use Rattle.group_search.specs.Steps.{whole_number, Wants, Suits, GoesOn, Ready, label_count, Placed, Bond, Mirrored, candidates as the_candidates, Tells};
 
 use cd::{Cd, CdError, LIMIT, SQUARE};
 use group_names::{Group, Groups, Name};
-use parse::Answer;
 
 // ---- the search
 
@@ -172,15 +170,8 @@ fn candidates(m: usize, p: u32) -> [Name; CANDIDATES]
     ]
 }
 
-// What is known of a component's name.
-#[derive(Clone, Copy)]
-pub enum Known {
-    Is(Name),
-    Nothing,
-}
-
-// The name of the component whose lowest node is c.
-fn name(pairs: &[u64; SQUARE], of: &[usize; LIMIT], n: usize, c: usize) -> Known
+// The name of the component whose lowest node is c, if one fits.
+fn name(pairs: &[u64; SQUARE], of: &[usize; LIMIT], n: usize, c: usize) -> Option<Name>
     requires { (n ≤ limit) × (c < n) × Mirrored limit n pairs.now × (at of.now c ≡ c) }
     ensures { Tells limit pairs.now of.now n c result }
 {
@@ -190,11 +181,11 @@ fn name(pairs: &[u64; SQUARE], of: &[usize; LIMIT], n: usize, c: usize) -> Known
     while k < CANDIDATES {
         let x = all[k];
         if fits(pairs, of, n, c, m, x) {
-            return Known::Is(x);
+            return Some(x);
         }
         k += 1;
     }
-    Known::Nothing
+    None
 }
 
 // ---- the components, one after another
@@ -215,51 +206,13 @@ fn none() -> Groups
     ensures { result ≡ listing [] }
 {
     Groups {
-        answer: Answer::Accepted,
         at: blanks(),
         count: 0,
     }
 }
 
-pub fn refusal(e: CdError) -> Groups
-    ensures { result ≡ the_refusal e }
-{
-    Groups {
-        answer: Answer::Refused(e),
-        at: blanks(),
-        count: 0,
-    }
-}
-
-// The list once node c is met: with c's component, if c is its lowest node; or the refusal, if that has no name.
-fn met(pairs: &[u64; SQUARE], of: &[usize; LIMIT], n: usize, c: usize, groups: Groups) -> Groups
-    requires { (n ≤ limit) × (c < n) × (groups.count ≤ c) × Mirrored limit n pairs.now }
-    ensures { (gs : List AGroup) → groups ≡ listing gs → Meets limit pairs.now of.now n c gs result }
-{
-    if of[c] != c {
-        return groups;
-    }
-    match name(pairs, of, n, c) {
-        Known::Is(x) => {
-            let mut at = groups.at;
-            let count = groups.count;
-            at[count] = Group {
-                node: c,
-                name: x,
-                order: group_names::order(x),
-            };
-            Groups {
-                answer: Answer::Accepted,
-                at: at,
-                count: count + 1,
-            }
-        }
-        Known::Nothing => refusal(CdError::NoName { node: c }),
-    }
-}
-
-// The names of a diagram's components.
-pub fn groups(cd: Cd) -> Groups
+// The names of a diagram's components, or the first component that no name fits.
+pub fn groups(cd: Cd) -> Result<Groups, CdError>
     requires { cd.count ≤ limit }
     ensures { (ns : List Node) (es : List Stored) → cd ≡ cd_of ns es → IsKept limit (diagram ns es) → Names (length ns) es result }
 {
@@ -267,19 +220,18 @@ pub fn groups(cd: Cd) -> Groups
     let pairs = tables::pairs_of(cd);
     let n = cd.count;
     let mut out = none();
-    let mut c = 0;
-    while c < n {
-        let next = met(&pairs, &of, n, c, out);
-        let answer = next.answer;
-        match answer {
-            Answer::Accepted => {
-                out = next;
-            }
-            Answer::Refused(_) => {
-                return next;
-            }
+    for c in 0..n {
+        if of[c] == c {
+            let Some(name) = name(&pairs, &of, n, c) else {
+                return Err(CdError::NoName { node: c });
+            };
+            out.at[out.count] = Group {
+                node: c,
+                name,
+                order: group_names::order(name),
+            };
+            out.count += 1;
         }
-        c += 1;
     }
-    out
+    Ok(out)
 }

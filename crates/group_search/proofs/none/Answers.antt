@@ -3,8 +3,7 @@ use mathlib.Core.List.{List}
 use mathlib.Core.Path.{ap}
 use Rattle.group_names.specs.declared.Group.{Group}
 use Rattle.group_names.specs.declared.Groups.{Groups}
-use Rattle.parse.specs.declared.Answer.TheVariants as said
 use Rattle.group_search.proofs.none.Goals as goal
 
 pub returns : goal.returns
-returns c = ap {B = Groups} (λ (gs : List Group). record { answer = said.Accepted; at = gs; count = 0 }) c.blanks.ensures
+returns c = ap {B = Groups} (λ (gs : List Group). record { at = gs; count = 0 }) c.blanks.ensures
