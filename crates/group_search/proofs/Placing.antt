@@ -10,6 +10,8 @@ use native.Mathlib.Numerals.{add-one}
 use native.Mathlib.Omega.{arith}
 use borrow.Author.Tests.{eq-eqb, ne_eqb}
 use lib.ListN.{length, set, length-set}
+use Rattle.std.specs.Prelude.{◌==◌, count_by, take}
+use Rattle.std.proofs.lemmas.List.Sums.{count_by_more_yes, count_by_more_no}
 use Rattle.filing.specs.Numberings.{Injects, at}
 use Rattle.filing.specs.Sequences.{Agree}
 use Rattle.filing.proofs.Bytes.{one_more}
@@ -93,6 +95,10 @@ module _ (of : List ℕ) (c : ℕ) where
   unfolding label_count
   count_none = zero-le
 
+  count_zero : label_count of c zero ≡ count_by (λ x. x == c) (take zero of)
+  unfolding label_count
+  count_zero = refl
+
   pub count_yes : (k : ℕ) → at of k ≡ c → label_count of c (suc k) ≡ suc (label_count of c k)
   unfolding label_count
   count_yes k e = rw (eq-eqb (at of k) c e)
@@ -100,6 +106,19 @@ module _ (of : List ℕ) (c : ℕ) where
   pub count_no : (k : ℕ) → at of k ≢ c → label_count of c (suc k) ≡ label_count of c k
   unfolding label_count
   count_no k e = rw (ne_eqb (at of k) c e)
+
+  -- the count is that of the labels
+  pub count_taken : (k : ℕ) → k ≤ length of → label_count of c k ≡ count_by (λ x. x == c) (take k of)
+  count_taken zero h = count_zero
+  count_taken (suc k) h = go (ℕ_discrete (at of k) c) (count_taken k (omega arith))
+    where
+      go : Dec (at of k ≡ c) → label_count of c k ≡ count_by (λ x. x == c) (take k of) → label_count of c (suc k) ≡ count_by (λ x. x == c) (take (suc k) of)
+      go (yes e) less =
+          let m : count_by (λ x. x == c) (take (suc k) of) ≡ count_by (λ x. x == c) (take k of) + 1 = rw add-one at (count_by_more_yes (λ x. x == c) of k 0 h (eq-eqb (at of k) c e)) in
+          omega (arith, count_yes k e)
+      go (no e) less =
+          let m : count_by (λ x. x == c) (take (suc k) of) ≡ count_by (λ x. x == c) (take k of) = rw add-one at (count_by_more_no (λ x. x == c) of k 0 h (ne_eqb (at of k) c e)) in
+          omega (arith, count_no k e)
 
   pub count_le : (k : ℕ) → label_count of c k ≤ k
   count_le zero = count_none

@@ -1,5 +1,5 @@
 -- What the steps of naming promise each other, over labels and the table of pairs. No public promise leans on this file. N is the limit of nodes.
-use Rattle.std.specs.Prelude.{true, List, [], ◌∷◌, ◌++◌, ◌≢◌, ◌≡◌, ℕ, zero, suc, ◌+◌, ◌*◌, ◌/◌, ◌^◌, ◌≤◌, ◌<◌, eqb, length, Option, Some, None}
+use Rattle.std.specs.Prelude.{true, List, [], ◌∷◌, ◌++◌, ◌≢◌, ◌≡◌, ℕ, zero, suc, ◌+◌, ◌*◌, ◌/◌, ◌^◌, ◌≤◌, ◌<◌, eqb, length, Option, MatchOption}
 use Rattle.float.specs.Pick.{pick}
 use Rattle.filing.specs.Numberings.{at}
 use Rattle.filing.specs.Sequences.{Agree}
@@ -59,10 +59,13 @@ pub record Placed (N : ℕ) (pairs of : List ℕ) (n c m : ℕ) (x : Name) : Typ
   pub places : ℕ → ℕ
   pub embeds : Embeds N pairs of n c x m places
 
--- what joins c to another node of its component, if that has one: r is that number
-pub data Bond (N : ℕ) (pairs of : List ℕ) (n c r : ℕ) : Type 0 where
-  alone : ((v : ℕ) → v < n → at of v ≡ c → v ≡ c) → Bond N pairs of n c r
-  bound : {v : ℕ} → v < n → at of v ≡ c → v ≢ c → r ≡ at pairs (N * c + v) / 2 ^ 32 → Bond N pairs of n c r
+-- p is the number that joins c to another node of its component
+abbrev pub Bound : ℕ → List ℕ → List ℕ → ℕ → ℕ → ℕ → Type 0
+Bound N pairs of n c p = (v : ℕ) × (v < n) × (at of v ≡ c) × (v ≢ c) × (p ≡ at pairs (N * c + v) / 2 ^ 32)
+
+-- what joins c to another node of its component, if that has one
+abbrev pub Bond : ℕ → List ℕ → List ℕ → ℕ → ℕ → Option ℕ → Type 0
+Bond N pairs of n c r = MatchOption r ((v : ℕ) → v < n → at of v ≡ c → v ≡ c) (Bound N pairs of n c)
 
 -- the table has each pair of n nodes in both orders
 abbrev pub Mirrored : ℕ → ℕ → List ℕ → Type 0
@@ -77,9 +80,8 @@ abbrev pub Takes : ℕ → List ℕ → List ℕ → ℕ → ℕ → Name → Ty
 Takes N pairs of n c x = Placed N pairs of n c (label_count of c n) x
 
 -- what is known of a component's name
-pub data Tells (N : ℕ) (pairs of : List ℕ) (n c : ℕ) (r : Option Name) : Type 0 where
-  is : {x : Name} → Takes N pairs of n c x → r ≡ Some x → Tells N pairs of n c r
-  nothing : ((x : Name) → Takes N pairs of n c x → ⊥) → r ≡ None → Tells N pairs of n c r
+abbrev pub Tells : ℕ → List ℕ → List ℕ → ℕ → ℕ → Option Name → Type 0
+Tells N pairs of n c r = MatchOption r ((x : Name) → Takes N pairs of n c x → ⊥) (Takes N pairs of n c)
 
 -- ---- the components, one after another
 

@@ -4,4 +4,4 @@ use Rattle.group_search.proofs.Listing.{Stands}
 use Rattle.group_search.proofs.groups.Given as goal
 
 abbrev pub invariant-loop-c : goal.invariant-loop-c
-invariant-loop-c l = Stands limit l.pairs l.of l.n l.c l.out
+invariant-loop-c l = Stands limit l.pairs l.of l.cd.count l.c l.out
