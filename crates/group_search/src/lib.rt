@@ -41,6 +41,7 @@ fn wanted(x: Name, k: usize) -> [u64; LIMIT]
 // ---- a component's name
 
 // How many of n nodes have the label c.
+#[tactic(auto, using(crate::proofs::Placing::count_taken, crate::proofs::Placing::count_le))]
 fn label_count(of: &[usize; LIMIT], n: usize, c: usize) -> usize
     requires { n ≤ limit }
     ensures { (result ≡ label_count of.now c n) × (result ≤ n) }
@@ -114,6 +115,7 @@ impl Component<'_> {
     }
 
     // Whether all nodes of the name's diagram have a place in the component, and leave out none.
+    #[tactic(auto, using(crate::proofs::Placing::ready_start, crate::proofs::Placing::count_le))]
     fn fits(&self, x: Name) -> bool
         ensures { Decides (Placed limit self.now.pairs.now self.now.of.now self.now.count self.now.lowest self.now.size x) result }
     {

@@ -1,7 +1,6 @@
 -- `group_search::groups` meets its contract; Invariants.antt has the argument.
 use native.Mathlib.Omega.{arith}
 use Rattle.group_search.proofs.Listing.{stands_first, stands_passed, stands_listed, names_listed, names_refused, table_mirrored}
-use Rattle.group_search.proofs.Placing.{count_le}
 use Rattle.group_search.proofs.groups.Goals as goal
 use Rattle.group_search.proofs.groups.Goals.{then-of-c+in-Some, else-of-c}
 
@@ -20,11 +19,6 @@ invariant_of-component c = record {
 pub returns-in_default : goal.returns-in_default
 returns-in_default c = λ ns es held d.
     names_refused _ ns es held d _ _ c.pairs_of-pairs.ensures (c.components-of.ensures ns es held) c.loop-c-test.true c.loop-c.invariant c.if-of-c.true c.in_default.ensures
-
-pub order-requires : goal.order-requires
-order-requires c =
-    let t = c.in-Some.ensures in
-    (t.valid, omega (arith, t.size, count_le c.components-of.result c.loop-c.c c.args.cd.count))
 
 pub loop-c-preserved : goal.loop-c-preserved
 loop-c-preserved c =

@@ -1,5 +1,5 @@
 -- `Component::bond` meets its contract: a node that is found is one of the component, and not its lowest.
-use Rattle.std.proofs.Common.{arith, rules, tests, ◌≡◌, ◌≢◌, ℕ, ◌<◌, ap, ◌/◌}
+use Rattle.std.proofs.Common.{arith, rules, tests, ◌≡◌, ◌≢◌, ◌<◌, ap, ◌/◌}
 use Rattle.std.proofs.lemmas.Iterator.{first_from_Range}
 use Rattle.filing.specs.Numberings.{at}
 use Rattle.group_search.proofs.Component.bond.Goals as goal

@@ -1,5 +1,5 @@
 -- `Component::name` meets its contract: the candidate that is found fits, and where none does no name fits (Telling.antt).
-use Rattle.std.proofs.Common.{arith, ◌≡◌, ◌∙◌, ℕ, ◌<◌, ap, get_or}
+use Rattle.std.proofs.Common.{arith, ◌∙◌, ℕ, ◌<◌, ap, get_or}
 use Rattle.std.specs.Prelude.{MatchOption}
 use Rattle.std.proofs.lemmas.Grind.{common_steps}
 use Rattle.cd.specs.Diagrams.{limit}
