@@ -3,7 +3,6 @@
 #![tactic(auto)]
 
 ghost use Rattle.std.specs.Prelude.{List, [], ◌≡◌, ℕ, ◌<◌, ◌≤◌, length};
-ghost use Rattle.cd.specs.Arrays.{padded};
 ghost use Rattle.cd.specs.Diagrams.{Stored, limit, cd_of};
 ghost use Rattle.cd.specs.Minimal.{Decides};
 ghost use Rattle.cd.specs.declared.Node.{Node};
@@ -11,7 +10,7 @@ ghost use Rattle.filing.specs.Numberings.{at};
 ghost use Rattle.tables.specs.Diagrams.{diagram};
 ghost use Rattle.tables.specs.Tables.{IsKept};
 ghost use Rattle.group_names.specs.declared.Name.{Name as AName};
-ghost use Rattle.group_names.specs.Named.{blank, listing, Names};
+ghost use Rattle.group_names.specs.Named.{listing, Names};
 ghost use Rattle.group_search.specs.Steps.{whole_number, Wants, Suits, GoesOn, Ready, label_count, Placed, Bond, Mirrored, candidates as the_candidates, Tells};
 
 use cd::{Cd, CdError, LIMIT, SQUARE};
@@ -41,10 +40,10 @@ fn wanted(x: Name, k: usize) -> [u64; LIMIT]
 // ---- a component's name
 
 // How many of n nodes have the label c.
-#[tactic(auto, using(crate::proofs::Placing::count_taken, crate::proofs::Placing::count_le))]
+#[tactic(auto, using(crate::proofs::Placing::count_taken))]
 fn label_count(of: &[usize; LIMIT], n: usize, c: usize) -> usize
     requires { n ≤ limit }
-    ensures { (result ≡ label_count of.now c n) × (result ≤ n) }
+    ensures { result ≡ label_count of.now c n }
 {
     of[..n].iter().filter(|label| **label == c).count()
 }
@@ -161,6 +160,7 @@ fn none() -> Groups
 }
 
 // The names of a diagram's components, or the first component that no name fits.
+#[tactic(auto, using(crate::proofs::Placing::count_le))]
 pub fn groups(cd: Cd) -> Result<Groups, CdError>
     requires { cd.count ≤ limit }
     ensures { (ns : List Node) (es : List Stored) → cd ≡ cd_of ns es → IsKept limit (diagram ns es) → Names (length ns) es result }

@@ -12,7 +12,7 @@ invariant_of-component c = record {
   few = c.requires;
   inside = c.loop-c-test.true;
   own = c.if-of-c.true;
-  counted = c.label_count.ensures.0;
+  counted = c.label_count.ensures;
   mirrored = table_mirrored c.args.cd.pairs c.pairs_of-pairs.result c.requires c.pairs_of-pairs.ensures;
 }
 
