@@ -38,7 +38,7 @@ pub struct Group {
     pub order: u64,
 }
 
-// The components by rising lowest node: the first `count` of `at`.
+// The components by rising lowest node: the first `count` of `at`. (A count beside an array, since no heap is used.)
 #[derive(Clone, Copy)]
 pub struct Groups {
     pub at: [Group; LIMIT],
