@@ -1,5 +1,6 @@
 -- Document 02, K2: "Matrix bits don't change, since both quotients round the same fraction". The edges as typed have the matrix of the edges kept, entry by
 -- entry, and so what the calls show of a text is what its edges as typed would show. Numbers of 32 bits are doubles exactly. Assumes nothing.
+use Rattle.std.specs.Prelude.{Ok}
 use mathlib.Core.Bool.{Bool, false}
 use mathlib.Core.List.{List, [], ◌∷◌, map}
 use mathlib.Core.Path.{◌≡◌, refl, ap}
@@ -60,7 +61,7 @@ shown_as_typed f same wish s = of (typed wish s) refl
 
 pub matrix_as_typed : (wish : Bool) (s : List ℕ) → matrix_of (read wish s) ≡ matrix_of (typed wish s)
 unfolding matrix_of
-matrix_as_typed wish s = shown_as_typed matrix_of (λ ns es ts h. ap (square (length ns)) h) wish s
+matrix_as_typed wish s = shown_as_typed matrix_of (λ ns es ts h. ap (λ (m : squares.Square). Ok (square (length ns) m)) h) wish s
 
 pub normals_as_typed : (walls wish : Bool) (s : List ℕ) → normals_of walls (read wish s) ≡ normals_of walls (typed wish s)
 unfolding normals_of

@@ -1,4 +1,5 @@
 -- From what the code holds of a matrix and of mirrors to what the geometers' calls promise: case by case of the definitions. Assumes nothing.
+use Rattle.std.specs.Prelude.{Result, Ok, Err}
 use Prim.Native.Nat.{ℕ, ◌+◌, ◌*◌, ◌≤◌, ◌<◌}
 use mathlib.Core.Bool.{Bool, true, false, and-eq-true_iff}
 use mathlib.Core.List.{List}
@@ -15,7 +16,7 @@ use Rattle.cd.specs.declared.Node.{Node}
 use Rattle.cox.specs.Families.{family_matrix, is_family}
 use Rattle.cox.specs.Matrix.{matrix}
 use Rattle.cox.specs.Shown.{cox_of, family_of}
-use Rattle.cox.specs.Squares.{zeros, flat_square}
+use Rattle.cox.specs.Squares.{flat_square}
 use Rattle.cox.specs.Squares as squares
 use Rattle.cox.specs.declared.Cox.{Cox}
 use Rattle.cox.proofs.Flats.{square_at}
@@ -27,161 +28,198 @@ use Rattle.normals.specs.Mirrors.{Mirrors, Columns, mirrors}
 use Rattle.normals.specs.Mirrors as normals
 use Rattle.normals.specs.Shown.{mirrors_of}
 use Rattle.normals.proofs.Triangle.{mirrors_local}
-use Rattle.normals.specs.declared.Fit.TheVariants as fit
-use Rattle.normals.specs.declared.Mirrors as declared
-use Rattle.parse.specs.Reading.{Reading, Accepted, Refused}
-use Rattle.parse.specs.declared.Answer.{Answer}
-use Rattle.parse.specs.declared.Answer.TheVariants as said
+use Rattle.parse.specs.Reading.{Reading, Accepted, Refused, read}
+use Rattle.parse.proofs.Outcomes.{accepted_few}
 use Rattle.reflections.specs.Shown.{reflections_of}
 use Rattle.reflections.specs.declared.Reflections.{Reflections}
-use Rattle.geometry.specs.Points.{refused_generator, solved_generator, shown_generator, generator_over, refused_reflections, shown_reflections, reflections_of_text}
+use Rattle.geometry.specs.Points.{shown_generator, generator_over, shown_reflections, reflections_of_text}
 use Rattle.geometry.specs.Squares as shown
-use Rattle.geometry.specs.declared.Generated.{Generated}
-use Rattle.geometry.specs.declared.Reflected.{Reflected}
 use Rattle.geometry.specs.declared.Square.{Square}
 
--- ---- which mirrors an answer of `normals` shows
+-- ---- mirrors
 
-pub record Fits (x : Mirrors) (m : declared.Mirrors) : Type 0 where
+pub columns_shown : (n : ℕ) (x : Mirrors) (at : List Float) → Ok at ≡ mirrors_of x → Ok (record { at = at; count = n }) ≡ shown.shown_mirrors n x
+unfolding mirrors_of shown.shown_mirrors shown.square
+columns_shown n (Columns f) at h = let e : at ≡ flat_square limit f = cc in rw e
+columns_shown n (normals.Refused i) at h = cc
+
+pub crowded_shown : (n : ℕ) (x : Mirrors) (e : CdError) → Err e ≡ mirrors_of x → Err e ≡ shown.shown_mirrors n x
+unfolding mirrors_of shown.shown_mirrors
+crowded_shown n (Columns f) e h = cc
+crowded_shown n (normals.Refused i) e h = cc
+
+-- which mirrors are shown
+pub record Fits (n : ℕ) (x : Mirrors) (s : Square) : Type 0 where
   pub square : squares.Square
   pub is : x ≡ Columns square
-  pub held : m.columns ≡ flat_square limit square
+  pub held : s.at ≡ flat_square limit square
+  pub count : s.count ≡ n
 
-apart : (i : ℕ) → fit.Spherical ≡ fit.Crowded i → ⊥
-apart i h = let z : ◌≡◌ {A = ℕ} 0 1 = (cc) in omega arith
+pub fits : (n : ℕ) (x : Mirrors) (s : Square) → Ok s ≡ shown.shown_mirrors n x → Fits n x s
+unfolding shown.shown_mirrors shown.square
+fits n (Columns f) s h = let e : s ≡ shown.square n f = cc in record { square = f; is = refl; held = ap (λ (y : Square). y.at) e; count = ap (λ (y : Square). y.count) e }
+fits n (normals.Refused i) s h = cc
 
-same_column : (i j : ℕ) → fit.Crowded i ≡ fit.Crowded j → i ≡ j
-same_column i j h = cc
+-- ---- of a text
 
-pub fits : (n : ℕ) (x : Mirrors) (m : declared.Mirrors) → m ≡ mirrors_of n x → m.fit ≡ fit.Spherical → Fits x m
-unfolding mirrors_of
-fits n (Columns f) m h s = record { square = f; is = refl; held = ap (λ (y : declared.Mirrors). y.columns) h }
-fits n (normals.Refused i) m h s = absurd (apart i (sym s ∙ ap (λ (y : declared.Mirrors). y.fit) h))
+pub square_held : (ns : List Node) (es : List Stored) (cox : Cox) → cox ≡ cox_of ns es → ◌≡◌ {A = Square} (record { at = cox.at; count = cox.count }) (shown.square (length ns) (matrix es))
+unfolding cox_of shown.square
+square_held ns es cox h = rw h
 
-pub crowded : (n : ℕ) (x : Mirrors) (m : declared.Mirrors) (i : ℕ) → m ≡ mirrors_of n x → m.fit ≡ fit.Crowded i → x ≡ normals.Refused i
-unfolding mirrors_of
-crowded n (Columns f) m i h s = absurd (apart i (sym (ap (λ (y : declared.Mirrors). y.fit) h) ∙ s))
-crowded n (normals.Refused j) m i h s = ap normals.Refused (same_column j i (sym (ap (λ (y : declared.Mirrors). y.fit) h) ∙ s))
-
--- ---- matrices and mirrors
-
-pub columns_shown : (n : ℕ) (x : Mirrors) (f : squares.Square) (at : List Float) → x ≡ Columns f → at ≡ flat_square limit f
-    → ◌≡◌ {A = Square} (record { answer = said.Accepted; at = at; count = n }) (shown.shown_mirrors n x)
-unfolding shown.shown_mirrors
-columns_shown n x f at e h = rw (e, h)
-
-pub crowded_shown : (n : ℕ) (x : Mirrors) (i : ℕ) (r : Square) → x ≡ normals.Refused i → r ≡ shown.refused_square (Crowded i) → r ≡ shown.shown_mirrors n x
-unfolding shown.shown_mirrors
-crowded_shown n x i r e h = rw e h
-
--- what the code holds of a diagram's matrix
-pub matrix_at : (ns : List Node) (es : List Stored) (cox : Cox) → cox ≡ cox_of ns es → cox.at ≡ flat_square limit (matrix es)
-unfolding cox_of
-matrix_at ns es cox h = ap (λ (y : Cox). y.at) h
-
-pub matrix_count : (ns : List Node) (es : List Stored) (cox : Cox) → cox ≡ cox_of ns es → cox.count ≡ length ns
-unfolding cox_of
-matrix_count ns es cox h = ap (λ (y : Cox). y.count) h
-
-module _ (x : Reading) (ns : List Node) (es : List Stored) (is : x ≡ Accepted ns es) (cox : Cox) (held : cox ≡ cox_of ns es) where
-  pub matrix_shown : (a : Answer) → a ≡ said.Accepted → ◌≡◌ {A = Square} (record { answer = a; at = cox.at; count = cox.count }) (shown.matrix_of x)
-  unfolding shown.matrix_of
-  matrix_shown a h = rw (is, h, matrix_at ns es cox held, matrix_count ns es cox held)
-
-  pub normals_shown : (walls : Bool) (r : Square) → r ≡ shown.shown_mirrors cox.count (mirrors walls (matrix es) cox.count) → r ≡ shown.normals_of walls x
-  unfolding shown.normals_of
-  normals_shown walls r h = rw (is, ← (matrix_count ns es cox held)) h
-
-pub square_refused : (x : Reading) (e : CdError) (r : Square) → x ≡ Refused e → r ≡ shown.refused_square e → r ≡ shown.matrix_of x
+pub matrix_shown : (x : Reading) (ns : List Node) (es : List Stored) (s : Square) → x ≡ Accepted ns es → s ≡ shown.square (length ns) (matrix es) → Ok s ≡ shown.matrix_of x
 unfolding shown.matrix_of
-square_refused x e r is h = rw is h
+matrix_shown x ns es s is h = rw (is, h)
 
-pub normals_refused : (walls : Bool) (x : Reading) (e : CdError) (r : Square) → x ≡ Refused e → r ≡ shown.refused_square e → r ≡ shown.normals_of walls x
+pub matrix_refused : (x : Reading) (e : CdError) → x ≡ Refused e → Err e ≡ shown.matrix_of x
+unfolding shown.matrix_of
+matrix_refused x e is = rw is
+
+-- which matrix is shown
+pub record Squared (x : Reading) (s : Square) : Type 0 where
+  pub ns : List Node
+  pub es : List Stored
+  pub is : x ≡ Accepted ns es
+  pub held : s.at ≡ flat_square limit (matrix es)
+  pub count : s.count ≡ length ns
+
+pub squared : (x : Reading) (s : Square) → Ok s ≡ shown.matrix_of x → Squared x s
+unfolding shown.matrix_of shown.square
+squared (Accepted ns es) s h = let e : s ≡ shown.square (length ns) (matrix es) = cc in record { ns = ns; es = es; is = refl; held = ap (λ (y : Square). y.at) e; count = ap (λ (y : Square). y.count) e }
+squared (Refused e) s h = cc
+
+pub squared_few : (wish : Bool) (text : List ℕ) (s : Square) → Squared (read wish text) s → s.count ≤ limit
+squared_few wish text s q = rw q.count (accepted_few wish text q.ns q.es q.is)
+
+pub normals_shown : (walls : Bool) (x : Reading) (s : Square) (r : Result Square CdError) → Squared x s
+    → ((e : squares.Square) → s.at ≡ flat_square limit e → r ≡ shown.shown_mirrors s.count (mirrors walls e s.count)) → r ≡ shown.normals_of walls x
 unfolding shown.normals_of
-normals_refused walls x e r is h = rw is h
+normals_shown walls x s r q f = rw (q.is, ← q.count) (f (matrix q.es) q.held)
+
+pub normals_refused : (walls : Bool) (x : Reading) (e : CdError) → Err e ≡ shown.matrix_of x → Err e ≡ shown.normals_of walls x
+unfolding shown.matrix_of shown.normals_of
+normals_refused walls (Accepted ns es) e h = cc
+normals_refused walls (Refused d) e h = h
+
+-- the mirrors of a diagram's matrix
+pub diagram_normals : (walls : Bool) (ns : List Node) (es : List Stored) (s : Square) (r : Result Square CdError) → s ≡ shown.square (length ns) (matrix es)
+    → ((e : squares.Square) → s.at ≡ flat_square limit e → r ≡ shown.shown_mirrors s.count (mirrors walls e s.count)) → r ≡ shown.shown_mirrors (length ns) (mirrors walls (matrix es) (length ns))
+unfolding shown.square
+diagram_normals walls ns es s r h f = f (matrix es) (ap (λ (y : Square). y.at) h) ∙ ap (λ (y : Square). shown.shown_mirrors y.count (mirrors walls (matrix es) y.count)) h
+
+pub diagram_few : (wish : Bool) (text : List ℕ) (ns : List Node) (es : List Stored) (s : Square) → read wish text ≡ Accepted ns es → s ≡ shown.square (length ns) (matrix es) → s.count ≤ limit
+unfolding shown.square
+diagram_few wish text ns es s is h = rw h (accepted_few wish text ns es is)
 
 -- ---- families
 
 module _ (c n : ℕ) where
-  pub family_at : (cox : Cox) → cox ≡ family_of c n → cox.at ≡ flat_square limit (family_matrix c)
-  unfolding family_of
-  family_at cox h = ap (λ (y : Cox). y.at) h
+  pub family_shown : (cox : Cox) → cox ≡ family_of c n → is_family limit c n ≡ true → Ok (record { at = cox.at; count = cox.count }) ≡ shown.family_matrix_of c n
+  unfolding family_of shown.square shown.family_matrix_of
+  family_shown cox h t = rw (t, h)
 
-  pub family_few : is_family limit c n ≡ true → n ≤ limit
+  pub family_refused : is_family limit c n ≡ false → Err NoFamily ≡ shown.family_matrix_of c n
+  unfolding shown.family_matrix_of
+  family_refused t = rw t
+
+  -- which family is shown
+  pub record Family (s : Square) : Type 0 where
+    pub is : is_family limit c n ≡ true
+    pub held : s.at ≡ flat_square limit (family_matrix c)
+    pub count : s.count ≡ n
+
+  pub family : (s : Square) → Ok s ≡ shown.family_matrix_of c n → Family s
+  unfolding shown.square shown.family_matrix_of
+  family s h = of (is_family limit c n) refl
+    where
+      of : (t : Bool) → is_family limit c n ≡ t → Family s
+      of true t =
+          let e : s ≡ shown.square n (family_matrix c) = let k = rw t at h in cc in
+          record { is = t; held = ap (λ (y : Square). y.at) e; count = ap (λ (y : Square). y.count) e }
+      of false t = let k = rw t at h in cc
+
+  pub family_few : (s : Square) → Family s → s.count ≤ limit
   unfolding is_family
-  family_few t = leb-true n limit ((and-eq-true_iff (leb n limit) _).0 t).0
+  family_few s f = rw f.count (leb-true n limit ((and-eq-true_iff (leb n limit) _).0 f.is).0)
 
-  pub family_shown : (cox : Cox) → cox ≡ family_of c n → is_family limit c n ≡ true → ◌≡◌ {A = Square} (record { answer = said.Accepted; at = cox.at; count = n }) (shown.family_matrix_of c n)
-  unfolding shown.family_matrix_of
-  family_shown cox h t = rw (t, family_at cox h)
-
-  pub family_refused : (r : Square) → is_family limit c n ≡ false → r ≡ shown.refused_square NoFamily → r ≡ shown.family_matrix_of c n
-  unfolding shown.family_matrix_of
-  family_refused r t h = rw t h
-
-  pub family_normals_shown : (walls : Bool) (r : Square) → is_family limit c n ≡ true → r ≡ shown.shown_mirrors n (mirrors walls (family_matrix c) n) → r ≡ shown.family_normals_of walls c n
+  pub family_normals_shown : (walls : Bool) (s : Square) (r : Result Square CdError) → Family s
+      → ((e : squares.Square) → s.at ≡ flat_square limit e → r ≡ shown.shown_mirrors s.count (mirrors walls e s.count)) → r ≡ shown.family_normals_of walls c n
   unfolding shown.family_normals_of
-  family_normals_shown walls r t h = rw t h
+  family_normals_shown walls s r f g = rw (f.is, ← f.count) (g (family_matrix c) f.held)
+
+  pub family_normals_refused : (walls : Bool) (e : CdError) → Err e ≡ shown.family_matrix_of c n → Err e ≡ shown.family_normals_of walls c n
+  unfolding shown.family_matrix_of shown.family_normals_of
+  family_normals_refused walls e h = of (is_family limit c n) refl
+    where
+      of : (t : Bool) → is_family limit c n ≡ t → Err e ≡ shown.family_normals_of walls c n
+      of true t = let k = rw t at h in cc
+      of false t = rw t (rw t at h)
 
   -- THE MIRRORS AND THE WALLS OF A FAMILY ARE THOSE OF THE MATRIX THAT `family_matrix` ANSWERS
-  pub family_normals_of_matrix : (walls : Bool) (m : squares.Square) → is_family limit c n ≡ true → shown.family_matrix_of c n ≡ shown.square n m
+  pub family_normals_of_matrix : (walls : Bool) (m : squares.Square) → is_family limit c n ≡ true → shown.family_matrix_of c n ≡ Ok (shown.square n m)
       → shown.family_normals_of walls c n ≡ shown.shown_mirrors n (mirrors walls m n)
-  unfolding shown.family_matrix_of shown.family_normals_of
+  unfolding shown.square shown.family_matrix_of shown.family_normals_of
   family_normals_of_matrix walls m t h =
-      let same : flat_square limit (family_matrix c) ≡ flat_square limit m = ap (λ (y : Square). y.at) (rw t at h) in
+      let whole : shown.square n (family_matrix c) ≡ shown.square n m = let k = rw t at h in cc in
+      let same : flat_square limit (family_matrix c) ≡ flat_square limit m = ap (λ (y : Square). y.at) whole in
+      let few : n ≤ limit = family_few (shown.square n m) (family _ (sym h)) in
       let entry : (i j : ℕ) → j < i → i < n → family_matrix c i j ≡ m i j = λ i j l k.
-      let inside : i < limit = omega (arith, family_few t) in
+      let inside : i < limit = omega (arith, few) in
       sym (square_at limit (family_matrix c) nan i j inside (omega arith)) ∙ ap (λ z. get_or z (limit * i + j) nan) same ∙ square_at limit m nan i j inside (omega arith) in
       rw t (ap (shown.shown_mirrors n) (mirrors_local walls (family_matrix c) m n entry))
 
-  pub family_normals_refused : (walls : Bool) (r : Square) → is_family limit c n ≡ false → r ≡ shown.refused_square NoFamily → r ≡ shown.family_normals_of walls c n
-  unfolding shown.family_normals_of
-  family_normals_refused walls r t h = rw t h
-
 -- ---- the generator
 
-pub generator_none : (e : CdError) (g : Generator) → g ≡ generator_of 0 (λ i. squares.nil) → ◌≡◌ {A = Generated} (record { answer = said.Refused e; generator = g }) (refused_generator e)
-unfolding refused_generator
-generator_none e g h = rw h
+module _ (walls : Bool) (ns : List Node) where
+  pub generator_crowded : (x : Mirrors) (n : ℕ) (e : CdError) → Err e ≡ shown.shown_mirrors n x → Err e ≡ shown_generator walls ns x
+  unfolding shown.shown_mirrors shown_generator
+  generator_crowded (Columns m) n e h = cc
+  generator_crowded (normals.Refused i) n e h = let z : e ≡ Crowded i = cc in rw z
 
-module _ (walls : Bool) (ns : List Node) (m : squares.Square) where
-  pub generator_infinite : (k : ℕ) (r : Generated) → k ≡ first_infinite ns 0 → k < length ns → r ≡ refused_generator (Infinite k) → r ≡ solved_generator walls ns m
-  unfolding solved_generator
-  generator_infinite k r e l h = rw (← e, lt-ltb k (length ns) l) h
+  module _ (m : squares.Square) where
+    pub generator_infinite : (k : ℕ) → k ≡ first_infinite ns 0 → k < length ns → Err (Infinite k) ≡ shown_generator walls ns (Columns m)
+    unfolding shown_generator
+    generator_infinite k e l = rw (← e, lt-ltb k (length ns) l)
 
-  pub generator_solved : (k : ℕ) (g : Generator) → k ≡ first_infinite ns 0 → length ns ≤ k → g ≡ generator_of (length ns) (coordinates walls m (length ns) (values ns))
-      → ◌≡◌ {A = Generated} (record { answer = said.Accepted; generator = g }) (solved_generator walls ns m)
-  unfolding solved_generator
-  generator_solved k g e l h = rw (← e, le-ltb k (length ns) l, h)
+    pub generator_solved : (k : ℕ) (g : Generator) → k ≡ first_infinite ns 0 → length ns ≤ k → g ≡ generator_of (length ns) (coordinates walls m (length ns) (values ns))
+        → Ok g ≡ shown_generator walls ns (Columns m)
+    unfolding shown_generator
+    generator_solved k g e l h = rw (← e, le-ltb k (length ns) l, h)
 
-module _ (x : Reading) (ns : List Node) (es : List Stored) (is : x ≡ Accepted ns es) (n : ℕ) (count : n ≡ length ns) where
-  pub generator_shown : (walls : Bool) (m : squares.Square) (r : Generated) → mirrors walls (matrix es) n ≡ Columns m → r ≡ solved_generator walls ns m → r ≡ generator_over walls x
-  unfolding generator_over shown_generator
-  generator_shown walls m r e h = rw (is, ← count, e) h
-
-  pub generator_crowded : (walls : Bool) (i : ℕ) (r : Generated) → mirrors walls (matrix es) n ≡ normals.Refused i → r ≡ refused_generator (Crowded i) → r ≡ generator_over walls x
-  unfolding generator_over shown_generator
-  generator_crowded walls i r e h = rw (is, ← count, e) h
-
-  -- ---- the reflections
-
-  pub reflections_shown : (m : squares.Square) (a : Answer) (r : Reflections) → mirrors false (matrix es) n ≡ Columns m → a ≡ said.Accepted → r ≡ reflections_of n m
-      → ◌≡◌ {A = Reflected} (record { answer = a; reflections = r }) (reflections_of_text x)
-  unfolding reflections_of_text shown_reflections
-  reflections_shown m a r e h k = rw (is, ← count, e, h, k)
-
-  pub reflections_crowded : (i : ℕ) (r : Reflected) → mirrors false (matrix es) n ≡ normals.Refused i → r ≡ refused_reflections (Crowded i) → r ≡ reflections_of_text x
-  unfolding reflections_of_text shown_reflections
-  reflections_crowded i r e h = rw (is, ← count, e) h
-
-pub generator_refused : (walls : Bool) (x : Reading) (e : CdError) (r : Generated) → x ≡ Refused e → r ≡ refused_generator e → r ≡ generator_over walls x
+pub generator_shown : (walls : Bool) (x : Reading) (ns : List Node) (es : List Stored) (m : Mirrors) (r : Result Generator CdError) → x ≡ Accepted ns es → mirrors walls (matrix es) (length ns) ≡ m
+    → r ≡ shown_generator walls ns m → r ≡ generator_over walls x
 unfolding generator_over
-generator_refused walls x e r is h = rw is h
+generator_shown walls x ns es m r is e h = rw (is, e) h
 
-pub reflections_none : (e : CdError) (g : Reflections) → g ≡ reflections_of 0 zeros → ◌≡◌ {A = Reflected} (record { answer = said.Refused e; reflections = g }) (refused_reflections e)
-unfolding refused_reflections
-reflections_none e g h = rw h
+pub generator_refused : (walls : Bool) (x : Reading) (e : CdError) → x ≡ Refused e → Err e ≡ generator_over walls x
+unfolding generator_over
+generator_refused walls x e is = rw is
 
-pub reflections_refused : (x : Reading) (e : CdError) (r : Reflected) → x ≡ Refused e → r ≡ refused_reflections e → r ≡ reflections_of_text x
-unfolding reflections_of_text
-reflections_refused x e r is h = rw is h
+-- ---- the reflections
+
+-- which mirrors of a text are shown
+pub record Mirrored (x : Reading) (s : Square) : Type 0 where
+  pub ns : List Node
+  pub es : List Stored
+  pub is : x ≡ Accepted ns es
+  pub fits : Fits (length ns) (mirrors false (matrix es) (length ns)) s
+
+pub mirrored : (x : Reading) (s : Square) → Ok s ≡ shown.mirrors_of x → Mirrored x s
+unfolding shown.normals_of
+mirrored (Accepted ns es) s h = record { ns = ns; es = es; is = refl; fits = fits _ _ s h }
+mirrored (Refused e) s h = cc
+
+pub mirrored_few : (wish : Bool) (text : List ℕ) (s : Square) → Mirrored (read wish text) s → s.count ≤ limit
+mirrored_few wish text s m = rw m.fits.count (accepted_few wish text m.ns m.es m.is)
+
+pub reflections_shown : (x : Reading) (s : Square) (r : Reflections) (m : Mirrored x s) → r ≡ reflections_of s.count m.fits.square → Ok r ≡ reflections_of_text x
+unfolding reflections_of_text shown_reflections
+reflections_shown x s r m h = rw (m.is, m.fits.is, ← m.fits.count, h)
+
+pub reflections_refused : (x : Reading) (e : CdError) → Err e ≡ shown.mirrors_of x → Err e ≡ reflections_of_text x
+unfolding shown.normals_of shown.shown_mirrors reflections_of_text shown_reflections
+reflections_refused (Accepted ns es) e h = crowded (mirrors false (matrix es) (length ns)) h
+  where
+    crowded : (x : Mirrors) → Err e ≡ shown.shown_mirrors (length ns) x → Err e ≡ shown_reflections (length ns) x
+    crowded (Columns m) k = cc
+    crowded (normals.Refused i) k = let z : e ≡ Crowded i = cc in rw z
+reflections_refused (Refused d) e h = let z : e ≡ d = cc in rw z

@@ -16,10 +16,10 @@ use Rattle.scan.specs.Ascii.{ascii}
 use Rattle.scan.specs.Bytes.{is_digit, is_space}
 use Rattle.scan.specs.Edges.{edge_at}
 use Rattle.scan.specs.Spaces.{skip}
-use Rattle.geometry.specs.Points.{generator_over, refused_generator}
-use Rattle.geometry.specs.Squares.{normals_of, refused_square}
+use Rattle.geometry.specs.Points.{generator_over}
+use Rattle.geometry.specs.Squares.{normals_of}
 use Rattle.geometry.specs.Texts.{answers, RightEntry, texts}
 
 pub texts_right : All RightEntry texts
-unfolding texts answers generator_over refused_generator normals_of refused_square whole read kept reduced text_from join_all node_at literal_of edge_at skip is_digit is_space ascii letter_of is_edge is_two ends_of decimal_of of_bits add sub mul div neg le of_int
+unfolding texts answers generator_over normals_of whole read kept reduced text_from join_all node_at literal_of edge_at skip is_digit is_space ascii letter_of is_edge is_two ends_of decimal_of of_bits add sub mul div neg le of_int
 texts_right = cons refl (cons refl (cons refl (cons refl (cons refl (cons refl nil)))))

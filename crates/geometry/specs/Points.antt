@@ -1,68 +1,58 @@
 -- The promises of `generator`, `wall_generator` and `reflections`. Document 01, "What each operation refuses": "Reflections: the text's, then 15 with column i.
 -- Generator: the text's, 15, then 16, an infinite value (the first such node)." Document 02, K7, of the second generator: "Circumradius and the refusals 15 and 16
--- follow as in 01." A refusal "gives .. no value": it carries those of no nodes.
-use Rattle.std.specs.Prelude.{Bool, true, false, List, ℕ, ltb, length}
+-- follow as in 01." A refusal "gives .. no value".
+use Rattle.std.specs.Prelude.{Bool, true, false, List, ℕ, ltb, length, Result, Ok, Err}
 use Rattle.float.specs.Pick.{pick}
 use Rattle.cd.specs.declared.CdError.{CdError}
 use Rattle.cd.specs.declared.CdError.TheVariants.{Crowded, Infinite}
 use Rattle.cd.specs.declared.Node.{Node}
 use Rattle.cox.specs.Matrix.{matrix}
-use Rattle.cox.specs.Squares.{nil, zeros}
 use Rattle.cox.specs.Squares as squares
 use Rattle.generator.specs.Generator.{values, first_infinite}
 use Rattle.generator.specs.Shown.{generator_of}
 use Rattle.generator.specs.TrueDistances.{coordinates}
+use Rattle.generator.specs.declared.Generator.{Generator}
 use Rattle.normals.specs.Mirrors.{Mirrors, Columns, mirrors}
 use Rattle.normals.specs.Mirrors as normals
 use Rattle.parse.specs.Reading.{Reading, Accepted, Refused}
-use Rattle.parse.specs.declared.Answer.TheVariants as said
 use Rattle.reflections.specs.Shown.{reflections_of}
-use Rattle.geometry.specs.declared.Generated.{Generated}
-use Rattle.geometry.specs.declared.Reflected.{Reflected}
+use Rattle.reflections.specs.declared.Reflections.{Reflections}
 
 -- ---- the generator
 
-unfoldable pub refused_generator : CdError → Generated
-unfolding generator_of
-refused_generator e = record { answer = said.Refused e; generator = generator_of 0 (λ i. nil) }
-
 -- of mirrors, or walls, that fit
-unfoldable pub solved_generator : Bool → List Node → squares.Square → Generated
-unfolding generator_of coordinates values first_infinite refused_generator
+unfoldable pub solved_generator : Bool → List Node → squares.Square → Result Generator CdError
+unfolding generator_of coordinates values first_infinite
 solved_generator walls ns m =
     let n = length ns in
     let k = first_infinite ns 0 in
-    pick (ltb k n) (refused_generator (Infinite k)) (record { answer = said.Accepted; generator = generator_of n (coordinates walls m n (values ns)) })
+    pick (ltb k n) (Err (Infinite k)) (Ok (generator_of n (coordinates walls m n (values ns))))
 
-unfoldable pub shown_generator : Bool → List Node → Mirrors → Generated
+unfoldable pub shown_generator : Bool → List Node → Mirrors → Result Generator CdError
 unfolding solved_generator
 shown_generator walls ns (Columns m) = solved_generator walls ns m
-shown_generator walls ns (normals.Refused i) = refused_generator (Crowded i)
+shown_generator walls ns (normals.Refused i) = Err (Crowded i)
 
-unfoldable pub generator_over : Bool → Reading → Generated
+unfoldable pub generator_over : Bool → Reading → Result Generator CdError
 unfolding shown_generator mirrors matrix
 generator_over walls (Accepted ns es) = shown_generator walls ns (mirrors walls (matrix es) (length ns))
-generator_over walls (Refused e) = refused_generator e
+generator_over walls (Refused e) = Err e
 
 -- "The Rust's generator remains under its own call"
-abbrev pub generator_of_text : Reading → Generated
+abbrev pub generator_of_text : Reading → Result Generator CdError
 generator_of_text = generator_over false
 
-abbrev pub wall_generator_of_text : Reading → Generated
+abbrev pub wall_generator_of_text : Reading → Result Generator CdError
 wall_generator_of_text = generator_over true
 
 -- ---- the reflections
 
-unfoldable pub refused_reflections : CdError → Reflected
+unfoldable pub shown_reflections : ℕ → Mirrors → Result Reflections CdError
 unfolding reflections_of
-refused_reflections e = record { answer = said.Refused e; reflections = reflections_of 0 zeros }
+shown_reflections n (Columns m) = Ok (reflections_of n m)
+shown_reflections n (normals.Refused i) = Err (Crowded i)
 
-unfoldable pub shown_reflections : ℕ → Mirrors → Reflected
-unfolding reflections_of refused_reflections
-shown_reflections n (Columns m) = record { answer = said.Accepted; reflections = reflections_of n m }
-shown_reflections n (normals.Refused i) = refused_reflections (Crowded i)
-
-unfoldable pub reflections_of_text : Reading → Reflected
+unfoldable pub reflections_of_text : Reading → Result Reflections CdError
 unfolding shown_reflections mirrors matrix
 reflections_of_text (Accepted ns es) = shown_reflections (length ns) (mirrors false (matrix es) (length ns))
-reflections_of_text (Refused e) = refused_reflections e
+reflections_of_text (Refused e) = Err e

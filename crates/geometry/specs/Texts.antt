@@ -1,32 +1,46 @@
 -- Document 02, K7, and its texts to try, as a list that goes on from lexicon/specs/Texts.antt, which stands below these calls. proofs/TextsRight.antt proves each.
-use Rattle.std.specs.Prelude.{ℕ, ◌+◌, ◌*◌, Bool, true, false, List, [], ◌∷◌, ◌≡◌, Float, get_or}
+use Rattle.std.specs.Prelude.{ℕ, ◌+◌, ◌*◌, Bool, true, false, List, [], ◌∷◌, ◌≡◌, Float, get_or, Result, Ok, Err}
 use Prim.Native.String.{String}
 use Rattle.std.specs.Float.{binary64}
 use Rattle.std.specs.Float.Ieee.{of_bits}
 use Rattle.cd.specs.Diagrams.{limit}
 use Rattle.cd.specs.Refusals.{number_of}
+use Rattle.cd.specs.declared.CdError.{CdError}
 use Rattle.cox.specs.Squares.{nil, one, flat, dot}
 use Rattle.parse.specs.Reading.{Reading, read}
-use Rattle.parse.specs.declared.Answer.{Answer}
-use Rattle.parse.specs.declared.Answer.TheVariants.{Accepted, Refused}
+use Rattle.generator.specs.declared.Generator.{Generator}
 use Rattle.scan.specs.Ascii.{ascii}
 use Rattle.geometry.specs.Points.{wall_generator_of_text}
 use Rattle.geometry.specs.Squares.{mirrors_of, walls_of}
-use Rattle.geometry.specs.declared.Generated.{Generated}
 use Rattle.geometry.specs.declared.Square.{Square}
 
 -- ---- an entry, and when it is right
 
 -- 0, or a refusal's number and fields
-unfoldable pub numbers : Answer → List ℕ
+unfoldable pub numbers : {A : Type 0} → Result A CdError → List ℕ
 unfolding number_of
-numbers Accepted = 0 ∷ []
-numbers (Refused r) = number_of r
+numbers (Ok x) = 0 ∷ []
+numbers (Err e) = number_of e
+
+unfoldable pub coordinates : Result Generator CdError → List Float
+unfolding flat
+coordinates (Ok g) = flat g.count (λ i. get_or g.at i nil)
+coordinates (Err e) = []
 
 -- the product of the generator with column i, "the distance to its mirror"
-unfoldable pub distance : Square → Generated → ℕ → Float
+unfoldable pub distance : Square → Generator → ℕ → Float
 unfolding dot
-distance walls g i = dot (λ k. get_or g.generator.at k nil) (λ k. get_or walls.at (limit * i + k) nil) limit
+distance walls g i = dot (λ k. get_or g.at k nil) (λ k. get_or walls.at (limit * i + k) nil) limit
+
+unfoldable pub distances : Result Square CdError → Result Generator CdError → List Float
+unfolding distance flat
+distances (Ok walls) (Ok g) = flat g.count (distance walls g)
+distances (Ok walls) (Err e) = []
+distances (Err e) g = []
+
+unfoldable pub radius : Result Generator CdError → Float
+radius (Ok g) = g.radius
+radius (Err e) = nil
 
 -- what `mirrors`, `walls` and `wall_generator` answer, and of the last the coordinates, the distances from the walls, and the circumradius
 pub record Answers : Type 0 where
@@ -38,17 +52,16 @@ pub record Answers : Type 0 where
   pub radius : Float
 
 unfoldable pub answers : Reading → Answers
-unfolding numbers distance flat
+unfolding numbers coordinates distances radius
 answers r =
     let g = wall_generator_of_text r in
-    let n = g.generator.count in
     record {
-      mirrors = numbers (mirrors_of r).answer;
-      walls = numbers (walls_of r).answer;
-      generator = numbers g.answer;
-      coordinates = flat n (λ i. get_or g.generator.at i nil);
-      distances = flat n (distance (walls_of r) g);
-      radius = g.generator.radius;
+      mirrors = numbers (mirrors_of r);
+      walls = numbers (walls_of r);
+      generator = numbers g;
+      coordinates = coordinates g;
+      distances = distances (walls_of r) g;
+      radius = radius g;
     }
 
 -- a text, whether infinite lengths are wished, and the answers

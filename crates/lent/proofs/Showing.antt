@@ -1,47 +1,57 @@
 -- What a call tells and shows, case by case: refused, too short a slice, shown. Assumes nothing.
-use mathlib.Core.List.{List, ◌∷◌}
-use mathlib.Core.Path.{◌≡◌, refl, sym, ap, subst, ◌∙◌}
-use Prim.Native.Nat.{ℕ, ◌+◌, ◌*◌, ◌≤◌, ◌<◌}
+use Rattle.std.specs.Prelude.{Result, Ok, Err}
+use mathlib.Core.Bool.{Bool, true, false}
+use mathlib.Core.List.{List, ◌∷◌, ◌++◌}
+use mathlib.Core.Path.{◌≡◌, refl, sym, ap, ap₂, subst, ◌∙◌}
+use Prim.Native.Nat.{ℕ, ◌+◌, ◌-◌, ◌*◌, ◌≤◌, ◌<◌}
+use native.Mathlib.Nat.{zero-add}
 use native.Mathlib.Omega.{arith}
 use borrow.Author.Tests.{lt-ltb, le-ltb}
-use lib.ListN.{length, get_or, drop, length-append, get_or-append}
-use lib.Seq.{sets, sets-eq}
+use borrow.Rule.Slice.PartMut.{put_mid, mid_of}
+use lib.ListN.{length, get_or, take, drop, replicate, length-append, length-drop, length-replicate, get_or-append}
+use lib.Seq.{sets, sets-eq, length-sets, length-take-le}
+use mir.Val.{bool_byte}
+use Rattle.float.specs.Pick.{pick}
 use Rattle.cd.specs.Arrays.{padded}
-use Rattle.cd.specs.Diagrams.{limit, pair_limit}
-use Rattle.cd.specs.Refusals.{number_of}
+use Rattle.cd.specs.Diagrams.{limit, place}
 use Rattle.cd.specs.declared.Cd.{Cd}
 use Rattle.cd.specs.declared.CdError.{CdError}
 use Rattle.cd.specs.declared.CdError.TheVariants.{ShortBuffer}
 use Rattle.cd.specs.declared.Pair.{Pair}
 use Rattle.cd.specs.declared.Place.{Place}
-use Rattle.parse.specs.declared.Answer.{Answer}
-use Rattle.parse.specs.declared.Answer.TheVariants as said
-use Rattle.lent.specs.Outcomes.{Outcome, Shows, Refuses, fitted, lent, told, Lends}
-use Rattle.lent.specs.Shown.{diagram_length, outcome, flat, node_numbers, pair_numbers, numbers_of}
-use Rattle.lent.proofs.Copying.{flat_length}
+use Rattle.std.specs.List.{All}
+use Rattle.std.proofs.lemmas.List.{get_or_default}
+use Rattle.tables.specs.Tables.{IsNumber, Numbers}
+use Rattle.cd.specs.declared.Node.TheVariants.{Unringed}
+use Rattle.lent.specs.Outcomes.{Outcome, Shows, outcome, fitted, lent, told, figures, Lends}
+use Rattle.group_names.specs.declared.Group.{Group}
+use Rattle.group_names.specs.declared.Groups.{Groups}
+use Rattle.cd.proofs.Arrays.{length_padded, padded_rest}
+use Rattle.lent.specs.Shown.{names_length, group_numbers, names_of, flat, node_numbers, pair_numbers, numbers_of}
+use Rattle.lent.proofs.Copying.{flat_length, sets_behind, sets_whole, sets_then}
 
--- the four numbers are f, and the first is returned
-abbrev pub Tells : List ℕ → List ℕ → ℕ → Type 0
-Tells f answer' r = (answer' ≡ f) × (r ≡ get_or answer' 0 0)
+-- a test as a number
+pub flag : (b : Bool) → bool_byte b ≡ pick b 1 0
+flag true = refl
+flag false = refl
 
-module _ {A : Type 0} (a : Answer) (fs : List ℕ) (xs out out' : List A) (answer' : List ℕ) (r : ℕ) where
-  -- of an outcome that the slice's length leaves as it is, or refuses
-  lends : (o : Outcome A) → fitted (length out) (outcome a fs xs) ≡ o → out' ≡ lent o out → Tells (told o) answer' r → Lends (outcome a fs xs) out out' answer' r
-  lends o e s t = record { slice = s ∙ ap (λ p. lent p out) (sym e); answer = t.0 ∙ ap told (sym e); returned = t.1 }
+-- ---- what `fit` stores and answers
 
-  pub lends_refusal : (e : CdError) → a ≡ said.Refused e → out' ≡ out → Tells (padded 0 4 (number_of e)) answer' r → Lends (outcome a fs xs) out out' answer' r
-  unfolding outcome fitted lent told
-  lends_refusal e h s t = lends (Refuses e) (rw h) s t
+module _ {A B : Type 0} (f : A → List ℕ) (g : A → List B) (out : List B) where
+  abbrev pub Fit : Result A CdError → List B → Result (List ℕ) CdError → Type 0
+  Fit r out' t = (out' ≡ lent (fitted (length out) (outcome f g r)) out) × (figures t ≡ told (fitted (length out) (outcome f g r)))
 
-  pub lends_short : a ≡ said.Accepted → length out < length xs → out' ≡ out → Tells (padded 0 4 (number_of ShortBuffer)) answer' r
-      → Lends (outcome a fs xs) out out' answer' r
-  unfolding outcome fitted lent told
-  lends_short h l s t = lends (Refuses ShortBuffer) (rw (h, lt-ltb (length out) (length xs) l)) s t
+  pub fit_refusal : (e : CdError) → Fit (Err e) out (Err e)
+  unfolding outcome fitted lent told figures
+  fit_refusal e = (refl, refl)
 
-  pub lends_shown : a ≡ said.Accepted → length xs ≤ length out → out' ≡ sets out 0 xs → Tells (padded 0 4 (0 ∷ fs)) answer' r
-      → Lends (outcome a fs xs) out out' answer' r
-  unfolding outcome fitted lent told
-  lends_shown h l s t = lends (Shows fs xs) (rw (h, le-ltb (length out) (length xs) l)) s t
+  pub fit_short : (x : A) → length out < length (g x) → Fit (Ok x) out (Err ShortBuffer)
+  unfolding outcome fitted lent told figures
+  fit_short x l = rw (lt-ltb (length out) (length (g x)) l) (refl, refl)
+
+  pub fit_shown : (x : A) (out' : List B) (fs : List ℕ) → length (g x) ≤ length out → out' ≡ sets out 0 (g x) → fs ≡ padded 0 4 (0 ∷ f x) → Fit (Ok x) out' (Ok fs)
+  unfolding outcome fitted lent told figures
+  fit_shown x out' fs l s t = rw (le-ltb (length out) (length (g x)) l) (s, t)
 
 -- what a call with room enough has told, returned and shown
 module _ {A : Type 0} {o : Outcome A} {fs : List ℕ} {xs out out' : List A} {answer' : List ℕ} {r : ℕ} (l : Lends o out out' answer' r) (is : o ≡ Shows fs xs) (room : length xs ≤ length out) where
@@ -78,7 +88,66 @@ pub pairs_long : (ps : List Pair) → length (flat pair_numbers ps) ≡ 3 * leng
 unfolding pair_numbers
 pairs_long ps = flat_length pair_numbers 3 (λ p. refl) ps
 
-pub numbers_long : (cd : Cd) → length cd.nodes ≡ limit → length cd.pairs ≡ pair_limit → length (numbers_of cd) ≡ diagram_length
+-- the nodes' values have bits, whatever stands for a node past them
+pub numbers_all : (ps : List Place) → length ps ≡ limit → Numbers ps → All (λ (p : Place). IsNumber p.node) ps
+numbers_all ps e h = λ k d l. subst (λ (p : Place). IsNumber p.node) (get_or_default ps k (place Unringed) d l) (h k (omega arith))
+
+pub numbers_long : (cd : Cd) → length (numbers_of cd) ≡ 2 * length cd.nodes + 3 * length cd.pairs
 unfolding numbers_of
-numbers_long cd n p =
-    length-append (flat node_numbers cd.nodes) (flat pair_numbers cd.pairs) ∙ omega (arith, nodes_long cd.nodes, pairs_long cd.pairs, n, p)
+numbers_long cd = length-append (flat node_numbers cd.nodes) (flat pair_numbers cd.pairs) ∙ omega (arith, nodes_long cd.nodes, pairs_long cd.pairs)
+
+-- ---- a diagram and the components of groups, each stored in two parts
+
+module _ (cd : Cd) (nodes : length cd.nodes ≡ limit) (out m : List ℕ) (room : length (numbers_of cd) ≤ length out) where
+  pub nodes_room : length (flat node_numbers cd.nodes) ≤ length out
+  nodes_room = omega (arith, room, numbers_long cd, nodes_long cd.nodes)
+
+  module _ (stored : m ≡ sets out 0 (flat node_numbers cd.nodes)) where
+    long : length m ≡ length out
+    long = ap length stored ∙ length-sets out 0 (flat node_numbers cd.nodes)
+
+    pub behind_nodes : 2 * limit ≤ length m
+    behind_nodes = omega (arith, room, numbers_long cd, nodes, long)
+
+    pub pairs_room : length (flat pair_numbers cd.pairs) ≤ length (mid_of (2 * limit) (length m - 2 * limit) m)
+    pairs_room =
+        let rest : length (drop (2 * limit) m) ≡ length m - 2 * limit = length-drop (2 * limit) m in
+        omega (arith, room, numbers_long cd, pairs_long cd.pairs, nodes, long, behind_nodes, length-take-le (length m - 2 * limit) (drop (2 * limit) m) (omega arith))
+
+    pub diagram_stored : (n : List ℕ) → n ≡ sets (mid_of (2 * limit) (length m - 2 * limit) m) 0 (flat pair_numbers cd.pairs)
+        → put_mid (2 * limit) (length m - 2 * limit) m n ≡ sets out 0 (numbers_of cd)
+    unfolding numbers_of
+    diagram_stored n e =
+        sets_then (flat node_numbers cd.nodes) (flat pair_numbers cd.pairs) out m n (2 * limit) (length m - 2 * limit) stored
+        (nodes_long cd.nodes ∙ ap (λ k. 2 * k) nodes) e (omega (arith, room, numbers_long cd, pairs_long cd.pairs, nodes, long)) (omega (arith, behind_nodes))
+
+pub group_long : (gs : List Group) → length (flat group_numbers gs) ≡ 4 * length gs
+unfolding group_numbers
+group_long gs = flat_length group_numbers 4 (λ g. refl) gs
+
+pub names_long : (g : Groups) → length (names_of g) ≡ names_length
+unfolding names_of
+names_long g = length_padded 0 names_length (flat group_numbers (take g.count g.at))
+
+module _ (g : Groups) (at : length g.at ≡ limit) (few : g.count ≤ limit) (out m : List ℕ) (room : length (names_of g) ≤ length out) where
+  group_count : length (flat group_numbers (take g.count g.at)) ≡ 4 * g.count
+  group_count = group_long (take g.count g.at) ∙ ap (λ k. 4 * k) (length-take-le g.count g.at (omega arith))
+
+  pub groups_room : length (flat group_numbers (take g.count g.at)) ≤ length out
+  groups_room = omega (arith, room, names_long g, group_count)
+
+  module _ (stored : m ≡ sets out 0 (flat group_numbers (take g.count g.at))) where
+    pub behind_groups : names_length ≤ length m
+    behind_groups = omega (arith, room, names_long g, ap length stored ∙ length-sets out 0 (flat group_numbers (take g.count g.at)))
+
+    pub names_stored : (n : List ℕ) → n ≡ replicate (names_length - 4 * g.count) 0 → put_mid (4 * g.count) (names_length - 4 * g.count) m n ≡ sets out 0 (names_of g)
+    unfolding names_of
+    names_stored n e =
+        let zeros : List ℕ = replicate (names_length - 4 * g.count) 0 in
+        let rest : names_of g ≡ flat group_numbers (take g.count g.at) ++ zeros =
+        padded_rest 0 names_length (flat group_numbers (take g.count g.at)) (omega (arith, group_count)) ∙ ap (λ k. flat group_numbers (take g.count g.at) ++ replicate (names_length - k) 0) group_count in
+        ap (put_mid (4 * g.count) (names_length - 4 * g.count) m) e
+        ∙ sets_whole m zeros (4 * g.count) (names_length - 4 * g.count) (length-replicate (names_length - 4 * g.count) 0) (omega (arith, behind_groups))
+        ∙ ap₂ (λ z k. sets z k zeros) stored (sym (zero-add (4 * g.count)))
+        ∙ sets_behind out (flat group_numbers (take g.count g.at)) zeros 0 (4 * g.count) group_count
+        ∙ ap (sets out 0) (sym rest)

@@ -1,6 +1,6 @@
 -- Document 01, "What each operation refuses": "A refusal gives its number and the fields named, no value, and leaves an output buffer untouched." and "In every
 -- call, an output buffer keeps its bytes past what was written." For C a call writes to a lent slice, and its answer is four numbers.
-use Rattle.std.specs.Prelude.{List, ◌∷◌, ◌≡◌, ℕ, ltb, length, get_or}
+use Rattle.std.specs.Prelude.{List, ◌∷◌, ◌≡◌, ℕ, ltb, length, get_or, Result, Ok, Err}
 use Rattle.std.proofs.lemmas.List.Edits.{sets}
 use Rattle.float.specs.Pick.{pick}
 use Rattle.cd.specs.Arrays.{padded}
@@ -12,6 +12,11 @@ use Rattle.cd.specs.declared.CdError.TheVariants.{ShortBuffer}
 pub data Outcome (A : Type 0) : Type 0 where
   Shows : List ℕ → List A → Outcome A
   Refuses : CdError → Outcome A
+
+-- of an answer, what told and shown give of it
+unfoldable pub outcome : {A B : Type 0} → (A → List ℕ) → (A → List B) → Result A CdError → Outcome B
+outcome told shown (Ok x) = Shows (told x) (shown x)
+outcome told shown (Err e) = Refuses e
 
 -- "12, a buffer shorter than" what is shown: of a slice of n elements, after all other refusals
 unfoldable pub fitted : {A : Type 0} → ℕ → Outcome A → Outcome A
@@ -28,6 +33,12 @@ unfoldable pub told : {A : Type 0} → Outcome A → List ℕ
 unfolding padded number_of
 told (Shows fs xs) = padded 0 4 (0 ∷ fs)
 told (Refuses e) = padded 0 4 (number_of e)
+
+-- the four numbers that the code has of them, or a refusal's
+unfoldable pub figures : Result (List ℕ) CdError → List ℕ
+unfolding padded number_of
+figures (Ok fs) = fs
+figures (Err e) = padded 0 4 (number_of e)
 
 -- of a slice before and after, the four numbers afterwards, and the number returned
 pub record Lends {A : Type 0} (o : Outcome A) (out out' : List A) (answer' : List ℕ) (r : ℕ) : Type 0 where

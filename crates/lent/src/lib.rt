@@ -1,275 +1,357 @@
 // What a call for C tells in its answer and shows in lent slices.
 #![tactic(auto)]
 
-ghost use Rattle.std.specs.Prelude.{List, ◌∷◌, ◌≡◌, ℕ, ◌+◌, ◌-◌, ◌*◌, ◌≤◌, length, get_or, take, replicate};
+ghost use Rattle.std.specs.Prelude.{List, [], ◌∷◌, ◌++◌, ◌≡◌, ℕ, ◌≤◌, Ok, ⊤, length, get_or, take};
+ghost use Rattle.std.specs.List.{All};
 ghost use Rattle.std.proofs.lemmas.List.Edits.{sets};
 ghost use Rattle.cd.specs.Arrays.{padded};
 ghost use Rattle.cd.specs.Diagrams.{limit};
-ghost use Rattle.cd.specs.Refusals.{number_of};
-ghost use Rattle.parse.specs.declared.Answer.TheVariants as said;
+ghost use Rattle.float.specs.Pick.{pick};
 ghost use Rattle.tables.specs.Tables.{IsNumber, Numbers};
-ghost use Rattle.lent.specs.Outcomes.{Lends};
-ghost use Rattle.lent.specs.Shown.{diagram_length, names_length, square_length, reflections_length, outcome, flat, node_numbers, pair_numbers, numbers_of, group_numbers, entries, of_groups, of_square, of_generated, of_reflected};
+ghost use Rattle.lent.specs.Outcomes.{outcome, fitted, lent, told, figures, Lends};
+ghost use Rattle.lent.specs.Shown.{names_length, reflections_length, flat, node_numbers, pair_numbers, numbers_of, group_numbers, names_of, entries};
 
-use cd::{Cd, CdError, LIMIT, PAIRS, Pair, Place, SQUARE};
-use geometry::{Generated, Reflected, Square};
+use cd::{Cd, CdError, LIMIT, Pair, Place, SQUARE};
+use generator::Generator;
+use geometry::Square;
 use group_names::{Group, Groups};
-use parse::{Answer, Read};
-use reflections::Matrix;
+use lexicon::Reading;
+use reflections::{Matrix, Reflections};
 
-// How many numbers an answer and a diagram have; how many doubles a generator and reflections.
+// How many numbers an answer has.
 pub const ANSWER: usize = 4;
 
-const DIAGRAM: usize = 2 * LIMIT + 3 * PAIRS;
-
-// Four numbers a component.
+// How many numbers stand for the names of groups, four a component; how many doubles for reflections.
 const NAMES: usize = 4 * LIMIT;
-
-const GENERATOR: usize = LIMIT + 1;
 
 const REFLECTIONS: usize = SQUARE * LIMIT;
 
 // ---- what a call tells
 
-// Stores the answer; its first number is what the call returns.
-pub fn tell(f: [usize; ANSWER], answer: &mut [usize; ANSWER]) -> usize
-    ensures { (answer.new ≡ f) × (result ≡ get_or answer.new 0 0) }
+// Stores the four numbers, or the refusal's number and fields; the first is what the call returns.
+pub fn tell(f: Result<[usize; ANSWER], CdError>, answer: &mut [usize; ANSWER]) -> usize
+    ensures { (answer.new ≡ figures f) × (result ≡ get_or answer.new 0 0) }
 {
-    *answer = f;
-    f[0]
-}
-
-// The refusal's number and fields.
-pub fn refuse(e: CdError, answer: &mut [usize; ANSWER]) -> usize
-    ensures { (answer.new ≡ padded 0 4 (number_of e)) × (result ≡ get_or answer.new 0 0) }
-{
-    let f = cd::figures(e);
-    let at = f.at;
-    tell(at, answer)
+    *answer = match f {
+        Ok(f) => f,
+        Err(e) => cd::figures(e).at,
+    };
+    answer[0]
 }
 
 // ---- what a call shows
 
-// Stores doubles from `at` on.
-fn put(out: &mut [f64], at: usize, from: &[f64])
-    requires { at + length from.now ≤ length out.old }
-    ensures { out.new ≡ sets out.old at from.now }
+// What is stored in a lent slice, from its front on.
+pub trait Shown {
+    type Item;
+
+    ghost can_show: { Self → Type 0 };
+
+    ghost shown: { Self → List Self.Item };
+
+    // How many elements that are.
+    fn length(&self) -> usize
+        requires { can_show self.now }
+        ensures { result ≡ length (shown self.now) };
+
+    fn put(&self, out: &mut [Self::Item])
+        requires { can_show self.now × (length (shown self.now) ≤ length out.old) }
+        ensures { out.new ≡ sets out.old 0 (shown self.now) };
+}
+
+// What each shows, end to end.
+fn put_each<T: Shown>(all: &[T], out: &mut [T::Item])
+    requires { All T.can_show all.now × (length (flat T.shown all.now) ≤ length out.old) }
+    ensures { out.new ≡ sets out.old 0 (flat T.shown all.now) }
 {
-    let mut i = 0;
-    while i < from.len() {
-        out[at + i] = from[i];
-        i += 1;
+    let mut at = 0;
+    for x in all {
+        x.put(&mut out[at..]);
+        at += x.length();
     }
 }
 
-fn put_matrix(out: &mut [f64], at: usize, m: Matrix)
-    requires { at + square_length ≤ length out.old }
-    ensures { (length m.at ≡ square_length) × (out.new ≡ sets out.old at m.at) }
-{
-    let entries = m.at;
-    put(out, at, &entries[..]);
-}
-
-// Nine matrices, end to end.
-fn put_matrices(out: &mut [f64], of: [Matrix; LIMIT])
-    requires { reflections_length ≤ length out.old }
-    ensures { out.new ≡ sets out.old 0 (entries of) }
-{
-    let mut i = 0;
-    while i < LIMIT {
-        put_matrix(out, SQUARE * i, of[i]);
-        i += 1;
-    }
-}
+// ---- diagrams
 
 // A node's kind and the bits of its length.
-fn put_node(out: &mut [u64], at: usize, p: Place)
-    requires { (at + 2 ≤ length out.old) × IsNumber p.node }
-    ensures { out.new ≡ sets out.old at (node_numbers p) }
-{
-    let n = p.node;
-    out[at] = tables::kind(n) as u64;
-    out[at + 1] = tables::bits(n);
-}
+#[tactic(auto, unfolding(crate::specs::Shown::node_numbers))]
+impl Shown for Place {
+    type Item = u64;
 
-fn put_nodes(out: &mut [u64], nodes: [Place; LIMIT])
-    requires { (2 * limit ≤ length out.old) × Numbers nodes }
-    ensures { out.new ≡ sets out.old 0 (flat node_numbers nodes) }
-{
-    let mut i = 0;
-    while i < LIMIT {
-        put_node(out, 2 * i, nodes[i]);
-        i += 1;
+    ghost can_show = { λ p. IsNumber p.node };
+
+    ghost shown = { node_numbers };
+
+    fn length(&self) -> usize {
+        2
+    }
+
+    fn put(&self, out: &mut [u64]) {
+        out[0] = tables::kind(self.node) as u64;
+        out[1] = tables::bits(self.node);
     }
 }
 
 // An edge's rank, num and den, or zeros.
-fn put_pair(out: &mut [u64], at: usize, p: Pair)
-    requires { at + 3 ≤ length out.old }
-    ensures { out.new ≡ sets out.old at (pair_numbers p) }
-{
-    let e = p.edge;
-    out[at] = p.rank as u64;
-    out[at + 1] = e.num as u64;
-    out[at + 2] = e.den as u64;
-}
+#[tactic(auto, unfolding(crate::specs::Shown::pair_numbers))]
+impl Shown for Pair {
+    type Item = u64;
 
-fn put_pairs(out: &mut [u64], pairs: [Pair; PAIRS])
-    requires { diagram_length ≤ length out.old }
-    ensures { out.new ≡ sets out.old (2 * limit) (flat pair_numbers pairs) }
-{
-    let mut i = 0;
-    while i < PAIRS {
-        put_pair(out, 2 * LIMIT + 3 * i, pairs[i]);
-        i += 1;
+    ghost can_show = { λ p. ⊤ };
+
+    ghost shown = { pair_numbers };
+
+    fn length(&self) -> usize {
+        3
+    }
+
+    fn put(&self, out: &mut [u64]) {
+        out[0] = self.rank as u64;
+        out[1] = self.edge.num as u64;
+        out[2] = self.edge.den as u64;
     }
 }
 
-fn put_diagram(out: &mut [u64], cd: Cd)
-    requires { (diagram_length ≤ length out.old) × Numbers cd.nodes }
-    ensures { out.new ≡ sets out.old 0 (numbers_of cd) }
-{
-    let nodes = cd.nodes;
-    let pairs = cd.pairs;
-    put_nodes(out, nodes);
-    put_pairs(out, pairs);
+impl Shown for Cd {
+    type Item = u64;
+
+    ghost can_show = { λ cd. Numbers cd.nodes };
+
+    ghost shown = { numbers_of };
+
+    fn length(&self) -> usize {
+        2 * self.nodes[..].len() + 3 * self.pairs[..].len()
+    }
+
+    fn put(&self, out: &mut [u64]) {
+        put_each(&self.nodes, out);
+        put_each(&self.pairs, &mut out[2 * LIMIT..]);
+    }
 }
+
+impl Shown for Reading {
+    type Item = u64;
+
+    ghost can_show = { λ r. Numbers r.cd.nodes };
+
+    ghost shown = { λ r. numbers_of r.cd };
+
+    fn length(&self) -> usize {
+        self.cd.length()
+    }
+
+    fn put(&self, out: &mut [u64]) {
+        self.cd.put(out);
+    }
+}
+
+// ---- names of groups
 
 // A component's lowest node, its name's letter and number, its group's order.
-fn put_group(out: &mut [u64], at: usize, g: Group)
-    requires { at + 4 ≤ length out.old }
-    ensures { out.new ≡ sets out.old at (group_numbers g) }
-{
-    let x = g.name;
-    let w = group_names::written(x);
-    out[at] = g.node as u64;
-    out[at + 1] = w.letter as u64;
-    out[at + 2] = w.number;
-    out[at + 3] = g.order;
-}
+#[tactic(auto, unfolding(crate::specs::Shown::group_numbers))]
+impl Shown for Group {
+    type Item = u64;
 
-fn put_groups(out: &mut [u64], groups: [Group; LIMIT], n: usize)
-    requires { (names_length ≤ length out.old) × (n ≤ limit) }
-    ensures { out.new ≡ sets out.old 0 (flat group_numbers (take n groups)) }
-{
-    let mut i = 0;
-    while i < n {
-        put_group(out, 4 * i, groups[i]);
-        i += 1;
+    ghost can_show = { λ g. ⊤ };
+
+    ghost shown = { group_numbers };
+
+    fn length(&self) -> usize {
+        4
+    }
+
+    fn put(&self, out: &mut [u64]) {
+        let w = group_names::written(self.name);
+        out[0] = self.node as u64;
+        out[1] = w.letter as u64;
+        out[2] = w.number;
+        out[3] = self.order;
     }
 }
 
-// From `at` to the end of the names.
-fn put_zeros(out: &mut [u64], at: usize)
-    requires { (at ≤ names_length) × (names_length ≤ length out.old) }
-    ensures { out.new ≡ sets out.old at (replicate (names_length - at) 0) }
+// The components, then zeros.
+#[tactic(auto, using(crate::proofs::Showing::names_long))]
+impl Shown for Groups {
+    type Item = u64;
+
+    ghost can_show = { λ g. g.count ≤ limit };
+
+    ghost shown = { names_of };
+
+    fn length(&self) -> usize {
+        NAMES
+    }
+
+    fn put(&self, out: &mut [u64]) {
+        let all = &self.at[..];
+        put_each(&all[..self.count], out);
+        out[4 * self.count..NAMES].fill(0);
+    }
+}
+
+// ---- matrices, generators, reflections
+
+fn put_doubles(from: &[f64], out: &mut [f64])
+    requires { length from.now ≤ length out.old }
+    ensures { out.new ≡ sets out.old 0 from.now }
 {
-    let mut i = at;
-    while i < NAMES {
-        out[i] = 0;
-        i += 1;
+    out[..from.len()].copy_from_slice(from);
+}
+
+impl Shown for Square {
+    type Item = f64;
+
+    ghost can_show = { λ s. ⊤ };
+
+    ghost shown = { λ s. s.at };
+
+    fn length(&self) -> usize {
+        self.at[..].len()
+    }
+
+    fn put(&self, out: &mut [f64]) {
+        put_doubles(&self.at, out);
+    }
+}
+
+// The coordinates, then the circumradius.
+impl Shown for Generator {
+    type Item = f64;
+
+    ghost can_show = { λ g. ⊤ };
+
+    ghost shown = { λ g. g.at ++ (g.radius ∷ []) };
+
+    fn length(&self) -> usize {
+        self.at[..].len() + 1
+    }
+
+    fn put(&self, out: &mut [f64]) {
+        put_doubles(&self.at, out);
+        out[LIMIT] = self.radius;
+    }
+}
+
+impl Shown for Matrix {
+    type Item = f64;
+
+    ghost can_show = { λ m. ⊤ };
+
+    ghost shown = { λ m. m.at };
+
+    fn length(&self) -> usize {
+        self.at[..].len()
+    }
+
+    fn put(&self, out: &mut [f64]) {
+        put_doubles(&self.at, out);
+    }
+}
+
+// Nine matrices, end to end.
+impl Shown for Reflections {
+    type Item = f64;
+
+    ghost can_show = { λ r. length (entries r.of) ≡ reflections_length };
+
+    ghost shown = { λ r. entries r.of };
+
+    fn length(&self) -> usize {
+        REFLECTIONS
+    }
+
+    fn put(&self, out: &mut [f64]) {
+        put_each(&self.of, out);
     }
 }
 
 // ---- what a call tells and shows, or what refuses it
 
-// A matrix or mirrors.
-pub fn show_square(s: Square, out: &mut [f64], answer: &mut [usize; ANSWER]) -> usize
-    ensures { Lends (of_square s) out.old out.new answer.new result }
-{
-    let a = s.answer;
-    match a {
-        Answer::Accepted => {
-            if out.len() < SQUARE {
-                return refuse(CdError::ShortBuffer, answer);
-            }
-            let at = s.at;
-            put(out, 0, &at[..]);
-            tell([0, s.count, 0, 0], answer)
-        }
-        Answer::Refused(e) => refuse(e, answer),
+// What is told of what is shown, behind 0.
+pub trait Told: Shown {
+    ghost told: { Self → List ℕ };
+
+    fn told(&self) -> [usize; ANSWER]
+        ensures { result ≡ padded 0 4 (0 ∷ told self.now) };
+}
+
+#[tactic(auto, using(crate::proofs::Showing::flag), unfolding(cd::specs::Arrays::padded))]
+impl Told for Reading {
+    ghost told = { λ r. r.cd.count ∷ r.cd.edges ∷ pick r.minimal 1 0 ∷ [] };
+
+    fn told(&self) -> [usize; ANSWER] {
+        [0, self.cd.count, self.cd.edges, self.minimal as usize]
     }
 }
 
-// A generator's coordinates, then its circumradius.
-pub fn show_generated(s: Generated, out: &mut [f64], answer: &mut [usize; ANSWER]) -> usize
-    ensures { Lends (of_generated s) out.old out.new answer.new result }
-{
-    let a = s.answer;
-    match a {
-        Answer::Accepted => {
-            if out.len() < GENERATOR {
-                return refuse(CdError::ShortBuffer, answer);
-            }
-            let g = s.generator;
-            let at = g.at;
-            put(out, 0, &at[..]);
-            out[LIMIT] = g.radius;
-            tell([0, g.count, 0, 0], answer)
-        }
-        Answer::Refused(e) => refuse(e, answer),
+#[tactic(auto, unfolding(cd::specs::Arrays::padded))]
+impl Told for Cd {
+    ghost told = { λ cd. cd.count ∷ cd.edges ∷ [] };
+
+    fn told(&self) -> [usize; ANSWER] {
+        [0, self.count, self.edges, 0]
     }
 }
 
-pub fn show_reflected(s: Reflected, out: &mut [f64], answer: &mut [usize; ANSWER]) -> usize
-    requires { length (entries s.reflections.of) ≡ reflections_length }
-    ensures { Lends (of_reflected s) out.old out.new answer.new result }
-{
-    let a = s.answer;
-    match a {
-        Answer::Accepted => {
-            if out.len() < REFLECTIONS {
-                return refuse(CdError::ShortBuffer, answer);
-            }
-            let g = s.reflections;
-            let of = g.of;
-            put_matrices(out, of);
-            tell([0, g.count, 0, 0], answer)
-        }
-        Answer::Refused(e) => refuse(e, answer),
+#[tactic(auto, unfolding(cd::specs::Arrays::padded))]
+impl Told for Groups {
+    ghost told = { λ g. g.count ∷ [] };
+
+    fn told(&self) -> [usize; ANSWER] {
+        [0, self.count, 0, 0]
     }
 }
 
-// A diagram, of which f is told.
-pub fn show_diagram(
-    r: Read,
-    f: [usize; ANSWER],
-    out: &mut [u64],
+#[tactic(auto, unfolding(cd::specs::Arrays::padded))]
+impl Told for Square {
+    ghost told = { λ s. s.count ∷ [] };
+
+    fn told(&self) -> [usize; ANSWER] {
+        [0, self.count, 0, 0]
+    }
+}
+
+#[tactic(auto, unfolding(cd::specs::Arrays::padded))]
+impl Told for Generator {
+    ghost told = { λ g. g.count ∷ [] };
+
+    fn told(&self) -> [usize; ANSWER] {
+        [0, self.count, 0, 0]
+    }
+}
+
+#[tactic(auto, unfolding(cd::specs::Arrays::padded))]
+impl Told for Reflections {
+    ghost told = { λ r. r.count ∷ [] };
+
+    fn told(&self) -> [usize; ANSWER] {
+        [0, self.count, 0, 0]
+    }
+}
+
+// What is shown, if the slice has room for it, and what is to be told.
+fn fit<T: Told + Copy>(
+    r: Result<T, CdError>,
+    out: &mut [T::Item],
+) -> Result<[usize; ANSWER], CdError>
+    requires { (x : T) → r ≡ Ok x → T.can_show x }
+    ensures { (out.new ≡ lent (fitted (length out.old) (outcome T.told T.shown r)) out.old) × (figures result ≡ told (fitted (length out.old) (outcome T.told T.shown r))) }
+{
+    let x = r?;
+    if out.len() < x.length() {
+        return Err(CdError::ShortBuffer);
+    }
+    x.put(out);
+    Ok(x.told())
+}
+
+pub fn show<T: Told + Copy>(
+    r: Result<T, CdError>,
+    out: &mut [T::Item],
     answer: &mut [usize; ANSWER],
 ) -> usize
-    requires { r.answer ≡ said.Accepted → Numbers r.cd.nodes }
-    ensures { (fs : List ℕ) → f ≡ padded 0 4 (0 ∷ fs) → Lends (outcome r.answer fs (numbers_of r.cd)) out.old out.new answer.new result }
+    requires { (x : T) → r ≡ Ok x → T.can_show x }
+    ensures { Lends (outcome T.told T.shown r) out.old out.new answer.new result }
 {
-    let a = r.answer;
-    match a {
-        Answer::Accepted => {
-            if out.len() < DIAGRAM {
-                return refuse(CdError::ShortBuffer, answer);
-            }
-            let cd = r.cd;
-            put_diagram(out, cd);
-            tell(f, answer)
-        }
-        Answer::Refused(e) => refuse(e, answer),
-    }
-}
-
-// The components, then zeros.
-pub fn show_groups(g: Groups, out: &mut [u64], answer: &mut [usize; ANSWER]) -> usize
-    requires { g.count ≤ limit }
-    ensures { Lends (of_groups g) out.old out.new answer.new result }
-{
-    let a = g.answer;
-    match a {
-        Answer::Accepted => {
-            if out.len() < NAMES {
-                return refuse(CdError::ShortBuffer, answer);
-            }
-            let at = g.at;
-            put_groups(out, at, g.count);
-            put_zeros(out, 4 * g.count);
-            tell([0, g.count, 0, 0], answer)
-        }
-        Answer::Refused(e) => refuse(e, answer),
-    }
+    tell(fit(r, out), answer)
 }

@@ -1,48 +1,50 @@
--- `geometry::generator_over` meets its contract.
-use mathlib.Core.Path.{◌≡◌}
-use Rattle.parse.specs.Reading.{read}
-use Rattle.lexicon.proofs.Answers.{read_few, Accepts, accepts, refuses}
-use Rattle.cox.specs.Shown.{cox_of}
-use Prim.Native.Nat.{◌≤◌}
-use Rattle.cd.specs.Diagrams.{limit}
-use Rattle.parse.proofs.Outcomes.{accepted_few}
-use Rattle.cox.specs.Matrix.{matrix}
-use Rattle.normals.specs.Mirrors.{mirrors}
-use Rattle.normals.specs.Shown.{mirrors_of}
-use Rattle.geometry.proofs.Shapes.{fits, crowded, matrix_at, matrix_count, generator_shown, generator_crowded, generator_refused}
+-- `geometry::generator_over` meets its contract: 15, then 16, then the generator.
+use mathlib.Core.Path.{◌≡◌, refl, subst}
+use Rattle.std.proofs.lemmas.Result.{err_from_is_err_and}
+use Rattle.cd.proofs.Stored.{count_held}
+use Rattle.generator.specs.Generator.{values}
+use Rattle.generator.specs.Shown.{generator_of}
+use Rattle.generator.specs.TrueDistances.{coordinates}
+use Rattle.lexicon.proofs.Answers.{accepts, refuses, read_few}
+use Rattle.geometry.proofs.Shapes.{fits, diagram_normals, diagram_few, generator_crowded, generator_infinite, generator_solved, generator_shown, generator_refused}
 use Rattle.geometry.proofs.generator_over.Goals as goal
-use Rattle.geometry.proofs.generator_over.Goals.{After-matrix-cox, After-normals-m, In-Accepted}
 
--- the text is accepted, and its matrix is held
-accepted : (c : In-Accepted) → Accepts (read c.args.wish c.args.text.now) c.parse-r.result
-accepted c = accepts _ _ c.parse-r.ensures c.in-Accepted.is
+pub returns-in_err-cd : goal.returns-in_err-cd
+returns-in_err-cd c =
+    let p = err_from_is_err_and c.from_residual.result c.from_residual.ensures.1 in
+    rw (p.1, p.2) (generator_refused _ _ _ (refuses _ _ c.in_err-cd.ensures))
 
-held : (c : After-matrix-cox) → let a = accepted (goal.at.After-matrix-cox c).In-Accepted in c.matrix-cox.result ≡ cox_of a.ns a.es
-held c = let a = accepted (goal.at.After-matrix-cox c).In-Accepted in c.matrix-cox.ensures a.ns a.es a.held
+pub normals-requires : goal.normals-requires
+normals-requires c =
+    let a = accepts _ _ c.in_ok-cd.ensures in
+    diagram_few _ _ a.ns a.es _ a.is (c.diagram_matrix.ensures a.ns a.es a.held)
 
-few : (c : After-matrix-cox) → c.matrix-cox.result.count ≤ limit
-few c = let a = accepted (goal.at.After-matrix-cox c).In-Accepted in rw (matrix_count _ _ _ (held c)) (accepted_few _ _ a.ns a.es a.is)
+pub returns-in_err-columns : goal.returns-in_err-columns
+returns-in_err-columns c =
+    let a = accepts _ _ c.in_ok-cd.ensures in
+    let p = err_from_is_err_and c.from_residual-in_err-columns.result c.from_residual-in_err-columns.ensures.1 in
+    let e = diagram_normals _ a.ns a.es _ _ (c.diagram_matrix.ensures a.ns a.es a.held) c.in_err-columns.ensures in
+    rw (p.1, p.2) (generator_shown _ _ a.ns a.es _ _ a.is refl (generator_crowded _ a.ns _ _ _ e))
 
--- what `normals` tells of the matrix
-columns : (c : After-normals-m) → let a = accepted (goal.at.After-normals-m c).In-Accepted in c.normals-m.result ≡ mirrors_of c.matrix-cox.result.count (mirrors c.args.walls (matrix a.es) c.matrix-cox.result.count)
-columns c = c.normals-m.ensures _ (matrix_at _ _ _ (held (goal.at.After-normals-m c).After-matrix-cox))
+pub first_infinite-k-requires : goal.first_infinite-k-requires
+first_infinite-k-requires c = read_few _ _ _ c.in_ok-cd.ensures
 
-pub normals-m-requires : goal.normals-m-requires
-normals-m-requires c = few (goal.at.normals-m-requires c).After-matrix-cox
+pub returns-then-k-cd : goal.returns-then-k-cd
+returns-then-k-cd c =
+    let a = accepts _ _ c.in_ok-cd.ensures in
+    let f = fits _ _ _ (diagram_normals _ a.ns a.es _ _ (c.diagram_matrix.ensures a.ns a.es a.held) c.in_ok-columns.ensures) in
+    let n = count_held _ a.ns a.es a.held in
+    let k = c.first_infinite-k.ensures a.ns n (c.values-values.ensures a.ns a.es a.held) in
+    generator_shown _ _ a.ns a.es _ _ a.is f.is (generator_infinite _ a.ns f.square _ k (rw n at c.if-k-cd.true))
 
-pub solved-requires : goal.solved-requires
-solved-requires c = read_few _ _ _ c.parse-r.ensures
+pub of-requires : goal.of-requires
+of-requires c = read_few _ _ _ c.in_ok-cd.ensures
 
-pub returns-in-Spherical : goal.returns-in-Spherical
-returns-in-Spherical c =
-    let a = accepted (goal.at.returns-in-Spherical c).In-Accepted in
-    let f = fits _ _ _ (columns (goal.at.returns-in-Spherical c).After-normals-m) c.in-Spherical.is in
-    generator_shown _ a.ns a.es a.is _ (matrix_count _ _ _ (held (goal.at.returns-in-Spherical c).After-matrix-cox)) _ f.square _ f.is (c.solved.ensures a.ns a.es f.square a.held f.held)
-
-pub returns-in-Crowded : goal.returns-in-Crowded
-returns-in-Crowded c =
-    let a = accepted (goal.at.returns-in-Crowded c).In-Accepted in
-    generator_crowded _ a.ns a.es a.is _ (matrix_count _ _ _ (held (goal.at.returns-in-Crowded c).After-matrix-cox)) _ _ _ (crowded _ _ _ _ (columns (goal.at.returns-in-Crowded c).After-normals-m) c.in-Crowded.is) c.refused_generator.ensures
-
-pub returns-in-Refused : goal.returns-in-Refused
-returns-in-Refused c = generator_refused _ _ _ _ (refuses _ _ _ c.parse-r.ensures c.in-Refused.is) c.refused_generator-in-Refused.ensures
+pub returns : goal.returns
+returns c =
+    let a = accepts _ _ c.in_ok-cd.ensures in
+    let f = fits _ _ _ (diagram_normals _ a.ns a.es _ _ (c.diagram_matrix.ensures a.ns a.es a.held) c.in_ok-columns.ensures) in
+    let n = count_held _ a.ns a.es a.held in
+    let v = c.values-values.ensures a.ns a.es a.held in
+    let g = subst (λ k. c.of.result ≡ generator_of k (coordinates c.args.walls f.square k (values a.ns))) n (c.of.ensures f.square (values a.ns) f.held v) in
+    generator_shown _ _ a.ns a.es _ _ a.is f.is (generator_solved _ a.ns f.square _ _ (c.first_infinite-k.ensures a.ns n v) (rw n at c.if-k-cd.false) g)

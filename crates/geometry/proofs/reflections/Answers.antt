@@ -1,49 +1,17 @@
 -- `geometry::reflections` meets its contract.
-use mathlib.Core.Bool.{false}
-use mathlib.Core.Path.{◌≡◌}
-use Rattle.parse.specs.Reading.{read}
-use Rattle.lexicon.proofs.Answers.{Accepts, accepts, refuses}
-use Rattle.cox.specs.Shown.{cox_of}
-use Prim.Native.Nat.{◌≤◌}
-use Rattle.cd.specs.Diagrams.{limit}
-use Rattle.parse.proofs.Outcomes.{accepted_few}
-use Rattle.cox.specs.Matrix.{matrix}
-use Rattle.normals.specs.Mirrors.{mirrors}
-use Rattle.normals.specs.Shown.{mirrors_of}
-use Rattle.geometry.proofs.Shapes.{fits, crowded, matrix_at, matrix_count, reflections_shown, reflections_crowded, reflections_refused}
+use Rattle.std.proofs.lemmas.Result.{err_from_is_err_and}
+use Rattle.geometry.proofs.Shapes.{mirrored, mirrored_few, reflections_shown, reflections_refused}
 use Rattle.geometry.proofs.reflections.Goals as goal
-use Rattle.geometry.proofs.reflections.Goals.{After-matrix-cox, After-normals-m, In-Accepted}
 
--- the text is accepted, and its matrix is held
-accepted : (c : In-Accepted) → Accepts (read c.args.wish c.args.text.now) c.parse-r.result
-accepted c = accepts _ _ c.parse-r.ensures c.in-Accepted.is
-
-held : (c : After-matrix-cox) → let a = accepted (goal.at.After-matrix-cox c).In-Accepted in c.matrix-cox.result ≡ cox_of a.ns a.es
-held c = let a = accepted (goal.at.After-matrix-cox c).In-Accepted in c.matrix-cox.ensures a.ns a.es a.held
-
-few : (c : After-matrix-cox) → c.matrix-cox.result.count ≤ limit
-few c = let a = accepted (goal.at.After-matrix-cox c).In-Accepted in rw (matrix_count _ _ _ (held c)) (accepted_few _ _ a.ns a.es a.is)
-
--- what `normals` tells of the matrix
-columns : (c : After-normals-m) → let a = accepted (goal.at.After-normals-m c).In-Accepted in c.normals-m.result ≡ mirrors_of c.matrix-cox.result.count (mirrors false (matrix a.es) c.matrix-cox.result.count)
-columns c = c.normals-m.ensures _ (matrix_at _ _ _ (held (goal.at.After-normals-m c).After-matrix-cox))
-
-pub normals-m-requires : goal.normals-m-requires
-normals-m-requires c = few (goal.at.normals-m-requires c).After-matrix-cox
+pub returns-in_err-mirrors : goal.returns-in_err-mirrors
+returns-in_err-mirrors c =
+    let p = err_from_is_err_and c.from_residual.result c.from_residual.ensures.1 in
+    rw (p.1, p.2) (reflections_refused _ _ c.in_err-mirrors.ensures)
 
 pub of-requires : goal.of-requires
-of-requires c = few (goal.at.of-requires c).After-matrix-cox
+of-requires c = mirrored_few _ _ _ (mirrored _ _ c.in_ok-mirrors.ensures)
 
-pub returns-in-Spherical : goal.returns-in-Spherical
-returns-in-Spherical c =
-    let a = accepted (goal.at.returns-in-Spherical c).In-Accepted in
-    let f = fits _ _ _ (columns (goal.at.returns-in-Spherical c).After-normals-m) c.in-Spherical.is in
-    reflections_shown _ a.ns a.es a.is _ (matrix_count _ _ _ (held (goal.at.returns-in-Spherical c).After-matrix-cox)) f.square _ _ f.is c.in-Accepted.is (c.of.ensures f.square f.held)
-
-pub returns-in-Crowded : goal.returns-in-Crowded
-returns-in-Crowded c =
-    let a = accepted (goal.at.returns-in-Crowded c).In-Accepted in
-    reflections_crowded _ a.ns a.es a.is _ (matrix_count _ _ _ (held (goal.at.returns-in-Crowded c).After-matrix-cox)) _ _ (crowded _ _ _ _ (columns (goal.at.returns-in-Crowded c).After-normals-m) c.in-Crowded.is) c.refused_reflections.ensures
-
-pub returns-in-Refused : goal.returns-in-Refused
-returns-in-Refused c = reflections_refused _ _ _ (refuses _ _ _ c.parse-r.ensures c.in-Refused.is) c.refused_reflections-in-Refused.ensures
+pub returns : goal.returns
+returns c =
+    let m = mirrored _ _ c.in_ok-mirrors.ensures in
+    reflections_shown _ _ _ m (c.of.ensures m.fits.square m.fits.held)
