@@ -19,7 +19,6 @@ ghost use Rattle.readback.specs.Spelled.{node, nodes_to, nodes_in, edges_to, edg
 ghost use Rattle.readback.specs.Steps.{NodesTo, PairsTo, halves, Shows};
 
 use cd::{Cd, CdError, Edge, LIMIT, Node, PAIRS, Pair, Place};
-use parse::{Answer, Read};
 use records::{NODE, PAIRS_AT, RECORD};
 
 // The number in eight bytes at k, the highest first.
@@ -217,28 +216,25 @@ fn spelled(s: &[u8]) -> Cd
 }
 
 // The diagram that has these bytes for its record.
-pub fn read(s: &[u8]) -> Read
+pub fn read(s: &[u8]) -> Result<Cd, CdError>
     ensures { (x : Reading) × ReadBack limit s.now x × (result ≡ answer x) }
 {
     if s.len() != RECORD {
-        return parse::refused(CdError::RecordLength);
+        return Err(CdError::RecordLength);
     }
     if !is_spelled(s) {
-        return parse::refused(CdError::NoDiagram); // for a count, kind, value or fraction
+        return Err(CdError::NoDiagram); // for a count, kind, value or fraction
     }
     let cd = spelled(s);
     let t = tables::of(cd);
     let n = t.count;
     let laid = records::is_layout(s, &t.kinds, &t.bits, &t.pairs, n, search::plain());
     if !laid {
-        return parse::refused(CdError::NoDiagram); // for a filler
+        return Err(CdError::NoDiagram); // for a filler
     }
     let smallest = search::is_smallest(&t.kinds, &t.bits, &t.pairs, n);
     if !smallest {
-        return parse::refused(CdError::NotSmallest);
+        return Err(CdError::NotSmallest);
     }
-    Read {
-        answer: Answer::Accepted,
-        cd: cd,
-    }
+    Ok(cd)
 }

@@ -1,20 +1,21 @@
 -- `readback::read` meets its contract: bytes that spell no diagram, or are not its layout, are laid out for none; of its layouts the smallest is read back as it, and
 -- any other is 22 (proofs/Tested.antt).
+use Rattle.std.specs.Prelude.{Result, Ok, Err}
 use Prim.Native.Nat.{◌≤◌}
 use mathlib.Core.List.{List}
-use mathlib.Core.Path.{◌≡◌, sym, subst}
+use mathlib.Core.Path.{◌≡◌, refl, sym, ap, subst}
 use lib.ListN.{length}
 use borrow.Author.Tests.{not-true, not-false}
 use Rattle.cd.specs.Diagrams.{Stored, limit, cd_of}
 use Rattle.cd.proofs.Stored.{count_held}
 use Rattle.cd.specs.declared.Cd.{Cd}
+use Rattle.cd.specs.declared.CdError.{CdError}
 use Rattle.cd.specs.declared.Node.{Node}
 use Rattle.filing.specs.Diagrams.{IsDiagram}
 use Rattle.filing.specs.Numberings.{Numbering, at, plain}
 use Rattle.filing.specs.Readable.{spelled}
 use Rattle.filing.specs.Records.{record_length}
-use Rattle.parse.specs.Reading.{Accepted, answer}
-use Rattle.parse.specs.declared.Answer.TheVariants as said
+use Rattle.parse.specs.Reading.{Accepted, Refused, answer}
 use Rattle.tables.specs.Tables.{IsKept, Holds, table_layout}
 use Rattle.tables.specs.Diagrams.{diagram}
 use Rattle.tables.proofs.TableLayouts.{numbers_held}
@@ -26,16 +27,20 @@ use Rattle.readback.proofs.Tested.{tables_few, plain_numbers, not_laid, not_smal
 use Rattle.readback.proofs.read.Goals as goal
 use Rattle.readback.proofs.read.Goals.{After-of-t, Else-not-laid}
 
-answered : (cd : Cd) (ns : List Node) (es : List Stored) → cd ≡ cd_of ns es → record { answer = said.Accepted; cd = cd } ≡ answer (Accepted ns es)
+answered : (cd : Cd) (ns : List Node) (es : List Stored) → cd ≡ cd_of ns es → ◌≡◌ {A = Result Cd CdError} (Ok cd) (answer (Accepted ns es))
 unfolding answer
-answered cd ns es e = rw e
+answered cd ns es e = ap Ok e
+
+refusal : (e : CdError) → ◌≡◌ {A = Result Cd CdError} (Err e) (answer (Refused e))
+unfolding answer
+refusal e = refl
 
 pub returns-then-s-ne-RECORD : goal.returns-then-s-ne-RECORD
-returns-then-s-ne-RECORD c = (_, wrong_length c.if-s-ne-RECORD.true, c.refused.ensures)
+returns-then-s-ne-RECORD c = (_, wrong_length c.if-s-ne-RECORD.true, refusal _)
 
 pub returns-then-not-is_spelled : goal.returns-then-not-is_spelled
 returns-then-not-is_spelled c =
-    (_, no_diagram c.if-s-ne-RECORD.false (λ r. refutes c.is_spelled.ensures (not-true _ c.if-not-is_spelled.true-raw) (laid_out_kept limit _ r)), c.refused-then-not-is_spelled.ensures)
+    (_, no_diagram c.if-s-ne-RECORD.false (λ r. refutes c.is_spelled.ensures (not-true _ c.if-not-is_spelled.true-raw) (laid_out_kept limit _ r)), refusal _)
 
 pub spelled-cd-requires : goal.spelled-cd-requires
 spelled-cd-requires c = (c.if-s-ne-RECORD.false, (c.is_spelled.ensures.only_when (not-false _ c.if-not-is_spelled.false-raw)).is)
@@ -68,7 +73,7 @@ pub returns-then-not-laid : goal.returns-then-not-laid
 returns-then-not-laid c =
     let d = (goal.at.returns-then-not-laid c).After-of-t in
     let ne = refutes c.is_layout-laid.ensures (not-true _ c.if-not-laid.true-raw) in
-    (_, no_diagram (long d) (not_laid limit _ (spells d) _ (holds d) (λ e. ne (rw c.plain.ensures e))), c.refused-then-not-laid.ensures)
+    (_, no_diagram (long d) (not_laid limit _ (spells d) _ (holds d) (λ e. ne (rw c.plain.ensures e))), refusal _)
 
 pub is_smallest-smallest-requires : goal.is_smallest-smallest-requires
 is_smallest-smallest-requires c =
@@ -83,7 +88,7 @@ pub returns-then-not-smallest : goal.returns-then-not-smallest
 returns-then-not-smallest c =
     let d = (goal.at.returns-then-not-smallest c).After-of-t in
     let ne = refutes c.is_smallest-smallest.ensures (not-true _ c.if-not-smallest.true-raw) in
-    (_, not_smallest limit _ (spells d) _ (holds d) (laid (goal.at.returns-then-not-smallest c).Else-not-laid) ne, c.refused-then-not-smallest.ensures)
+    (_, not_smallest limit _ (spells d) _ (holds d) (laid (goal.at.returns-then-not-smallest c).Else-not-laid) ne, refusal _)
 
 pub returns : goal.returns
 returns c =
