@@ -2,58 +2,54 @@
 // lengths.
 #![tactic(auto)]
 
-ghost use Rattle.std.specs.Prelude.{◌+◌, ◌≤◌, ◌<◌, length};
+ghost use Rattle.std.specs.Prelude.{◌≤◌, ◌<◌, length};
 ghost use Rattle.cdlist.specs.Lists.{longest, Listed};
 ghost use Rattle.lines.specs.Blocks.{IsBlock};
-ghost use Rattle.lines.specs.Written.{AddsLine};
+ghost use Rattle.lines.specs.Written.{HasRoom, AddsAtMost, AddsLine};
 
-use lines::Block;
+use lines::Answers;
 
 // The most bytes that are written on a text.
 const LONGEST: usize = 87;
 
-fn line(text: &[u8], wish: bool, out: &mut [u8], at: usize) -> usize
-    requires { at + longest ≤ length out.old }
-    ensures { AddsLine (Listed wish) text.now out.old at out.new result × (result ≤ at + longest) }
+fn line(text: &[u8], wish: bool, out: &mut Answers)
+    requires { HasRoom longest out.old }
+    ensures added { AddsLine (Listed wish) text.now out.old out.new }
+    ensures bound { AddsAtMost longest out.old out.new }
 {
     let r = lexicon::read(text, wish);
-    let to = lines::put_answer(out, at, r);
-    lines::put(out, to, b'\n')
+    lines::put_answer(out, r);
+    out.push(b'\n');
 }
 
-// Answers lines from `from` on, as many as the buffer has room for.
-fn block(s: &[u8], from: usize, wish: bool, out: &mut [u8]) -> Block
-    requires { (from < length s.now) × (longest ≤ length out.old) }
-    ensures { IsBlock (Listed wish) s.now from out.new result.next result.to × (from < result.next) × (result.to ≤ length out.new) }
+// Answers lines from `from` on, as many as there is room for, in place of what waits. Answers where the next one starts.
+fn block(s: &[u8], from: usize, wish: bool, out: &mut Answers) -> usize
+    requires { from < length s.now }
+    ensures block { IsBlock (Listed wish) s.now from out.new.items result }
+    ensures on { from < result }
 {
+    out.clear();
     let mut i = from;
-    let mut to = 0;
-    while i < s.len() {
-        if out.len() - to < LONGEST {
-            return Block { next: i, to: to };
-        }
-        let end = lines::line_end(s, i);
-        to = line(&s[i..end], wish, out, to);
+    while i < s.len() && LONGEST <= out.remaining_capacity() {
+        let end = i + lines::until(&s[i..], b'\n');
+        line(&s[i..end], wish, out);
         i = end + 1;
     }
-    Block { next: i, to: to }
+    i
 }
 
 fn main(rt: HostRuntime) {
-    let argument = lines::read_argument(&rt);
-    if !argument.known {
+    let Some(wish) = lines::read_argument(&rt) else {
         return;
-    }
+    };
     let mut text = io::large_buffer();
     let n = lines::read_input(&rt, &mut text);
-    let mut out = lines::buffer();
+    let mut out = Answers::new();
     let mut from = 0;
     while from < n {
-        let b = block(&text[..n], from, argument.infinite, &mut out);
-        let to = b.to;
-        if !lines::write_output(&rt, &out[..to]) {
+        from = block(&text[..n], from, wish, &mut out);
+        if !lines::write_output(&rt, &out) {
             return;
         }
-        from = b.next;
     }
 }

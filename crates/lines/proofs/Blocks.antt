@@ -12,7 +12,6 @@ use Rattle.scan.specs.Bytes.{is}
 use Rattle.scan.proofs.Rest.{drop_at}
 use Rattle.lines.specs.Blocks.{IsBlock, Blocks, end, then}
 use Rattle.lines.specs.Lines.{lines, begun, line_end, Answered, none, more}
-use Rattle.lines.specs.Written.{Adds}
 
 -- ---- the first line
 
@@ -59,16 +58,16 @@ module _ {Line : List ℕ → List ℕ → Type 0} where
   answered_append none q = q
   answered_append (more {x = x} {xs = xs} r p) q = rw (append_assoc x xs _) (more r (answered_append p q))
 
-  pub block_none : (s : List ℕ) (from : ℕ) (out : List ℕ) → IsBlock Line s from out from 0
-  block_none s from out = record { these = []; front = refl; answered = none }
+  pub block_none : (s : List ℕ) (from : ℕ) → IsBlock Line s from [] from
+  block_none s from = record { these = []; front = refl; answered = none }
 
   -- one line more, from place i to e
-  pub block_line : (s : List ℕ) (from : ℕ) {out out' : List ℕ} {i to to' e : ℕ} (x : List ℕ) → i < length s → e ≡ line_end (drop i s) i
-      → Line (take (e - i) (drop i s)) x → Adds out to out' to' x → IsBlock Line s from out i to → IsBlock Line s from out' (e + 1) to'
+  pub block_line : (s : List ℕ) (from : ℕ) {bytes bytes' : List ℕ} {i e : ℕ} (x : List ℕ) → i < length s → e ≡ line_end (drop i s) i
+      → Line (take (e - i) (drop i s)) x → bytes' ≡ bytes ++ x → IsBlock Line s from bytes i → IsBlock Line s from bytes' (e + 1)
   block_line s from {i = i} {e = e} x h p l a b = record {
     these = b.these ++ (take (e - i) (drop i s) ∷ []);
     front = b.front ∙ ap (λ ls. b.these ++ ls) (line_at s i e h p) ∙ sym (append_assoc b.these (take (e - i) (drop i s) ∷ []) _);
-    answered = rw a.held (answered_append b.answered (subst (Answered Line _) (append-nil x) (more l none)));
+    answered = rw a (answered_append b.answered (subst (Answered Line _) (append-nil x) (more l none)));
   }
 
   -- what blocks write up to the end is what is to be written on all lines from there

@@ -1,22 +1,18 @@
--- The end of a line, a byte at a time. Assumes nothing.
-use Prim.Native.Nat.{ℕ, ◌+◌, ◌≤◌, ◌<◌}
+-- A line ends at the first LF. Assumes nothing.
 use Prim.Native.Char.{code}
-use mathlib.Core.List.{List}
-use mathlib.Core.Path.{◌≡◌}
-use lib.ListN.{length, get_or, drop, drop_of_length-le}
-use borrow.Author.Tests.{eq-eqb, ne_eqb}
-use Rattle.scan.proofs.Rest.{drop_at}
+use Rattle.std.proofs.Common.{◌≡◌, ℕ, ◌+◌, ◌==◌, Bool, true, false, cond, not, List, [], ◌∷◌, ap, ◌∙◌, arith}
+use Rattle.std.specs.List.{position_or_len}
+use Rattle.float.specs.Pick.{pick}
 use Rattle.lines.specs.Lines.{line_end}
 
-module _ (s : List ℕ) (i : ℕ) where
-  pub end_here : i < length s → get_or s i 0 ≡ code "\n" → i ≡ line_end (drop i s) i
-  unfolding line_end
-  end_here h e = rw (drop_at s i h, eq-eqb _ (code "\n") e)
+picked : (t : Bool) (i k r : ℕ) → i + 1 + k ≡ r → i + cond (not t) (1 + k) 0 ≡ pick t i r
+picked true i k r e = omega arith
+picked false i k r e = omega arith
 
-  pub end_on : i < length s → (get_or s i 0 ≡ code "\n" → ⊥) → line_end (drop (i + 1) s) (i + 1) ≡ line_end (drop i s) i
-  unfolding line_end
-  end_on h e = rw (drop_at s i h, ne_eqb _ (code "\n") e)
+first_end : (s : List ℕ) (i : ℕ) → i + position_or_len (λ x. x == code "\n") s ≡ line_end s i
+unfolding line_end
+first_end [] i = omega arith
+first_end (b ∷ bs) i = picked (b == code "\n") i (position_or_len (λ x. x == code "\n") bs) (line_end bs (i + 1)) (first_end bs (i + 1))
 
-  pub end_last : length s ≤ i → i ≡ line_end (drop i s) i
-  unfolding line_end
-  end_last h = rw (drop_of_length-le s h)
+pub ends_at : (s : List ℕ) (i : ℕ) {k : ℕ} → k ≡ position_or_len (λ x. x == code "\n") s → i + k ≡ line_end s i
+ends_at s i h = ap (λ (k : ℕ). i + k) h ∙ first_end s i

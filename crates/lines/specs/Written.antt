@@ -1,13 +1,17 @@
--- What a function that writes into a buffer promises.
-use Rattle.std.specs.Prelude.{ℕ, ◌+◌, List, ◌++◌, ◌≡◌, length, take}
+-- What a function that adds to the answers that wait asks and promises.
+use Rattle.std.specs.Prelude.{ℕ, ◌+◌, ◌≤◌, List}
+use Rattle.arrayvec.specs.ArrayVec.{ArrayVec, Extends, array_vec_len}
 
--- the buffer, filled up to `at` before, is filled up to `to` after: with what it held, and then the bytes
-pub record Adds (before : List ℕ) (at : ℕ) (after : List ℕ) (to : ℕ) (bytes : List ℕ) : Type 0 where
-  pub held : take to after ≡ take at before ++ bytes
-  pub ends : to ≡ at + length bytes
+-- n more bytes may wait
+abbrev pub HasRoom : ℕ → ArrayVec ℕ → Type 0
+HasRoom n out = array_vec_len out + n ≤ 16384
+
+-- n more bytes wait, or fewer
+abbrev pub AddsAtMost : ℕ → ArrayVec ℕ → ArrayVec ℕ → Type 0
+AddsAtMost n before after = array_vec_len after ≤ array_vec_len before + n
 
 -- bytes that `Line` allows of the text are added
-pub record AddsLine (Line : List ℕ → List ℕ → Type 0) (text before : List ℕ) (at : ℕ) (after : List ℕ) (to : ℕ) : Type 0 where
+pub record AddsLine (Line : List ℕ → List ℕ → Type 0) (text : List ℕ) (before after : ArrayVec ℕ) : Type 0 where
   pub bytes : List ℕ
   pub allowed : Line text bytes
-  pub added : Adds before at after to bytes
+  pub added : Extends before bytes after

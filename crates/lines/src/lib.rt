@@ -1,54 +1,44 @@
 // What the programs share: input and output that fail aloud, a text a line, and answers gathered in a buffer.
 #![tactic(auto)]
 
-ghost use Rattle.std.specs.Prelude.{◌+◌, ◌≤◌, ◌<◌, [], ◌∷◌, ◌≡◌, leb, length, take, drop};
+ghost use Rattle.std.specs.Prelude.{◌+◌, ◌-◌, ◌≤◌, ◌<◌, [], ◌∷◌, ◌++◌, ◌≡◌, ◌==◌, leb, length, List, Bool, MatchResult};
+ghost use Rattle.arrayvec.specs.ArrayVec.{Extends, array_vec_len};
 ghost use Rattle.io.specs.Counts.{IsPrefixLen};
 ghost use Rattle.float.specs.Pick.{pick};
-ghost use Rattle.parse.specs.Reading as parse;
-ghost use Rattle.lines.specs.Lines.{line_end};
+ghost use Rattle.cd.specs.Refusals.{number_of};
+ghost use Rattle.cd.specs.Diagrams.{Stored, cd_of};
+ghost use Rattle.cd.specs.declared.Node.{Node};
+ghost use Rattle.parse.specs.Reading.{Accepted, Refused};
+ghost use Rattle.scan.specs.Ascii.{ascii};
+ghost use Rattle.std.specs.List.{position_or_len};
 ghost use Rattle.lexicon.specs.Answers.{numeral, spaced, answer_of};
-ghost use Rattle.lines.specs.Written.{Adds};
+ghost use Rattle.lines.specs.Written.{HasRoom, AddsAtMost};
 ghost use Rattle.lines.specs.Arguments.{argument_of};
 
-use cd::Numbers;
+use arrayvec::ArrayVec;
+use cd::CdError;
 use lexicon::Reading;
-use parse::Answer;
 use std::env::{Env, FillError};
 use std::io::Read;
 
 pub mod spelled; // spelled.rt: bytes that a line spells, and digests of bytes
+
+// Answers wait here, so that they are written many at a time.
+pub type Answers = ArrayVec<u8, 16384>;
 
 // Says a line on standard error: the exit status stays 0.
 fn say(rt: &impl Eprint, line: &str) {
     let _ = rt.eprintln(line);
 }
 
-// Whether a program's arguments are known, and whether they are the wish for infinite lengths.
-#[derive(Clone, Copy)]
-pub struct Argument {
-    pub known: bool,
-    pub infinite: bool,
-}
-
-fn argument_of(count: usize, word: &[u8]) -> Argument
+// Whether a program's arguments wish for infinite lengths, where they are known.
+fn argument_of(count: usize, word: &[u8]) -> Option<bool>
     ensures { result ≡ argument_of count word.now }
 {
-    if count < 2 {
-        return Argument {
-            known: true,
-            infinite: false,
-        };
-    }
-    if 2 < count {
-        return Argument {
-            known: false,
-            infinite: false,
-        };
-    }
-    let infinite = length::is_word(word, 0, b"--infinite");
-    Argument {
-        known: infinite,
-        infinite: infinite,
+    match count {
+        0 | 1 => Some(false),
+        2 => length::is_word(word, 0, b"--infinite").then_some(true),
+        _ => None,
     }
 }
 
@@ -63,19 +53,19 @@ fn argument_count(rt: &impl Env) -> usize {
     usize::MAX
 }
 
-// What the program was started with. Arguments that are not known are said to be so: a word mistyped must not be taken for none. (A word that is longer than the
-// buffer counts as one without bytes.)
-pub fn read_argument(rt: &(impl Env + Eprint)) -> Argument {
+// Whether the program was started with the wish for infinite lengths. Arguments that are not known are said to be so: a word mistyped must not be taken for none.
+// (A word that is longer than the buffer counts as one without bytes.)
+pub fn read_argument(rt: &(impl Env + Eprint)) -> Option<bool> {
     let mut word = [0u8; 10];
     let n = rt.arg(1, &mut word).unwrap_or(0);
-    let a = argument_of(argument_count(rt), &word[..n]);
-    if !a.known {
+    let wish = argument_of(argument_count(rt), &word[..n]);
+    if wish.is_none() {
         say(
             rt,
             "no argument but --infinite is known, and nothing is answered",
         );
     }
-    a
+    wish
 }
 
 // Reads standard input until the buffer is full or the input ends, and answers how many bytes it put at the start of the buffer. Where a read fails it says so
@@ -110,19 +100,20 @@ pub fn write_output(rt: &(impl Print + Eprint), bytes: &[u8]) -> bool {
     false
 }
 
-// The place of the first LF from `from` on, or the length.
-pub fn line_end(s: &[u8], from: usize) -> usize
-    requires { from ≤ length s.now }
-    ensures { (result ≡ line_end (drop from s.now) from) × (from ≤ result) × (result ≤ length s.now) }
+// The place of the first such byte, or the length.
+pub fn until(s: &[u8], b: u8) -> usize
+    ensures first { result ≡ position_or_len (λ x. x == b) s.now }
+    ensures within { result ≤ length s.now }
 {
-    let mut i = from;
-    while i < s.len() {
-        if s[i] == b'\n' {
-            return i;
-        }
-        i += 1;
-    }
-    i
+    s.iter().take_while(|x| **x != b).count()
+}
+
+// What stands before the first such byte, and what behind it; where there is none, all and nothing.
+pub fn split(s: &[u8], b: u8) -> (&[u8], &[u8])
+    ensures { length result.1.now ≤ length s.now - 1 }
+{
+    let end = until(s, b);
+    (&s[..end], s.get(end + 1..).unwrap_or(&[]))
 }
 
 // For lines that take more than the 65,536 bytes of `io::large_buffer`.
@@ -132,105 +123,119 @@ pub fn large_input() -> [u8; 131072]
     [0; 131072]
 }
 
-// Answers wait here, so that they are written many at a time.
-pub fn buffer() -> [u8; 16384]
-    ensures { 16384 ≡ length result }
+// Writes the answers that wait once they take more than half their room, so that any further answer has room.
+pub fn flush_half(rt: &(impl Print + Eprint), out: &mut Answers)
+    ensures kept { out.new.items ≡ pick (leb (array_vec_len out.old) 8192) out.old.items [] }
+    ensures half { array_vec_len out.new ≤ 8192 }
 {
-    [0; 16384]
-}
-
-// Writes the answers that wait once they take half the buffer, so that any further answer has room. Answers how many bytes wait then.
-pub fn flushed(rt: &(impl Print + Eprint), out: &[u8], at: usize) -> usize
-    requires { at ≤ length out.now }
-    ensures { (result ≡ pick (leb at 8192) at 0) × (result ≤ 8192) }
-{
-    if at <= 8192 {
-        return at;
+    if out.len() <= 8192 {
+        return;
     }
-    write_output(rt, &out[..at]);
-    0
+    write_output(rt, out);
+    out.clear();
 }
 
-// A block of answers in a buffer: the place in the input where the next one starts, and how many bytes of the buffer it takes.
-#[derive(Clone, Copy)]
-pub struct Block {
-    pub next: usize,
-    pub to: usize,
-}
-
-pub fn put(out: &mut [u8], at: usize, b: u8) -> usize
-    requires { at < length out.old }
-    ensures { Adds out.old at out.new result (b ∷ []) }
+// Answers each line of standard input, as much of it as the buffer holds: LF ends a line, and a last line may lack it.
+pub fn answer_lines<F: FnMut(&[u8], &mut Answers)>(
+    rt: &(impl Input + Print + Eprint),
+    input: &mut [u8],
+    mut line: F,
+)
+    requires { (state : F) (text : _) (out : _) → array_vec_len out.now ≤ 8192 → F.pre state text out }
 {
-    out[at] = b;
-    at + 1
-}
-
-pub fn put_all(out: &mut [u8], at: usize, s: &[u8]) -> usize
-    requires { at + length s.now ≤ length out.old }
-    ensures { Adds out.old at out.new result s.now }
-{
-    let mut i = 0;
-    while i < s.len() {
-        out[at + i] = s[i];
-        i += 1;
+    let n = read_input(rt, input);
+    let mut out = Answers::new();
+    let mut rest = &input[..n];
+    // No `for` over `split_inclusive`: tried, and such a loop gets no proof in a function with type parameters.
+    while !rest.is_empty() {
+        let (text, next) = split(rest, b'\n');
+        line(text, &mut out);
+        flush_half(rt, &mut out);
+        rest = next;
     }
-    at + i
+    write_output(rt, &out);
 }
 
-// A byte, and then the number in decimal.
-pub fn put_number(out: &mut [u8], at: usize, mark: u8, n: u64) -> usize
-    requires { at + 21 ≤ length out.old }
-    ensures { Adds out.old at out.new result (mark ∷ numeral n) × (result ≤ at + 21) }
+pub fn put_all(out: &mut Answers, s: &[u8])
+    requires { HasRoom (length s.now) out.old }
+    ensures added { Extends out.old s.now out.new }
+    ensures len { array_vec_len out.new ≡ array_vec_len out.old + length s.now }
+{
+    let _ = out.try_extend_from_slice(s);
+}
+
+// A number in decimal.
+pub fn put_decimal(out: &mut Answers, n: u64)
+    requires { HasRoom 20 out.old }
+    ensures added { Extends out.old (numeral n) out.new }
+    ensures bound { AddsAtMost 20 out.old out.new }
 {
     let mut digits = [0u8; 20];
     let k = io::decimal(n, &mut digits);
-    let to = put(out, at, mark);
-    put_all(out, to, &digits[..k])
+    put_all(out, &digits[..k]);
+}
+
+// A byte, and then the number in decimal.
+pub fn put_number(out: &mut Answers, mark: u8, n: u64)
+    requires { HasRoom 21 out.old }
+    ensures added { Extends out.old (mark ∷ numeral n) out.new }
+    ensures bound { AddsAtMost 21 out.old out.new }
+{
+    out.push(mark);
+    put_decimal(out, n);
 }
 
 // Each number after a space.
-pub fn put_numbers(out: &mut [u8], at: usize, f: Numbers) -> usize
-    requires { (at + 84 ≤ length out.old) × (f.count ≤ 4) }
-    ensures { Adds out.old at out.new result (spaced (take f.count f.at)) × (result ≤ at + 84) }
+pub fn put_numbers(out: &mut Answers, numbers: &[usize])
+    requires { (length numbers.now ≤ 4) × HasRoom 84 out.old }
+    ensures added { Extends out.old (spaced numbers.now) out.new }
+    ensures bound { AddsAtMost 84 out.old out.new }
 {
-    let count = f.count;
-    let mut to = at;
-    let mut k = 0;
-    while k < count {
-        let n = f.at[k];
-        to = put_number(out, to, b' ', n as u64);
-        k += 1;
+    for n in numbers {
+        put_number(out, b' ', *n as u64);
     }
-    to
 }
 
-fn flag(b: bool) -> usize
-    ensures { result ≡ pick b 1 0 }
+// `ok` and numbers.
+fn put_ok(out: &mut Answers, numbers: &[usize])
+    requires { (length numbers.now ≤ 4) × HasRoom 86 out.old }
+    ensures added { Extends out.old (ascii "ok" ++ spaced numbers.now) out.new }
+    ensures bound { AddsAtMost 86 out.old out.new }
 {
-    if b { 1 } else { 0 }
+    put_all(out, b"ok");
+    put_numbers(out, numbers);
+}
+
+// `no`, the refusal's number and its fields.
+fn put_no(out: &mut Answers, e: CdError)
+    requires { HasRoom 86 out.old }
+    ensures added { Extends out.old (ascii "no" ++ spaced (number_of e)) out.new }
+    ensures bound { AddsAtMost 86 out.old out.new }
+{
+    let f = cd::figures(e);
+    put_all(out, b"no");
+    put_numbers(out, &f.at[..f.count]);
+}
+
+// Numbers that were answered, or what was refused.
+pub fn put_outcome<const N: usize>(out: &mut Answers, r: Result<[usize; N], CdError>)
+    requires { (N ≤ 4) × HasRoom 86 out.old }
+    ensures { AddsAtMost 86 out.old out.new }
+{
+    match r {
+        Ok(numbers) => put_ok(out, &numbers),
+        Err(e) => put_no(out, e),
+    }
 }
 
 // `ok`, nodes, stored edges, minimal 1 or 0; or `no`, number, fields.
-pub fn put_answer(out: &mut [u8], at: usize, r: Reading) -> usize
-    requires { at + 86 ≤ length out.old }
-    ensures { ((x : parse.Reading) → r.read ≡ parse.answer x → Adds out.old at out.new result (answer_of x r.minimal)) × (result ≤ at + 86) }
+pub fn put_answer(out: &mut Answers, r: Result<Reading, CdError>)
+    requires { HasRoom 86 out.old }
+    ensures added { MatchResult r (λ r. (ns : List Node) (es : List Stored) → r.cd ≡ cd_of ns es → Extends out.old (answer_of (Accepted ns es) r.minimal) out.new) (λ e. (m : Bool) → Extends out.old (answer_of (Refused e) m) out.new) }
+    ensures bound { AddsAtMost 86 out.old out.new }
 {
-    let read = r.read;
-    let a = read.answer;
-    match a {
-        Answer::Accepted => {
-            let cd = read.cd;
-            let f = Numbers {
-                at: [cd.count, cd.edges, flag(r.minimal), 0],
-                count: 3,
-            };
-            let to = put_all(out, at, b"ok");
-            put_numbers(out, to, f)
-        }
-        Answer::Refused(e) => {
-            let to = put_all(out, at, b"no");
-            put_numbers(out, to, cd::figures(e))
-        }
+    match r {
+        Ok(r) => put_ok(out, &[r.cd.count, r.cd.edges, usize::from(r.minimal)]),
+        Err(e) => put_no(out, e),
     }
 }

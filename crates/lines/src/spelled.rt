@@ -1,94 +1,82 @@
 // What the replay programs of records share: bytes spelled in a line by hexadecimal digits, and answers that show bytes by a digest.
-ghost use Rattle.std.specs.Prelude.{◌+◌, ◌≤◌, ◌<◌, length};
+ghost use Rattle.std.specs.Prelude.{◌*◌, ◌≤◌, ◌<◌, ◌^◌, length};
+ghost use Rattle.lines.specs.Written.{HasRoom, AddsAtMost};
 
-use parse::Answer;
+use crate::Answers;
 
-// A hexadecimal digit's value, 0 for another byte.
-fn digit(b: u8) -> usize
-    ensures { result < 16 }
+const DIGITS: [u8; 16] = *b"0123456789abcdef";
+
+// A digit's value; 0 for another byte, and for a digit that the base has not.
+pub fn digit(b: u8, base: usize) -> usize
+    requires { 0 < base }
+    ensures { result < base }
 {
-    match b {
+    let d = match b {
         b'0'..=b'9' => (b - b'0') as usize,
         b'a'..=b'f' => (b - b'a') as usize + 10,
         _ => 0,
+    };
+    if d < base { d } else { 0 }
+}
+
+// The number that up to three hexadecimal digits mean.
+pub fn number(digits: &[u8]) -> usize
+    requires { length digits.now ≤ 3 }
+    ensures { result < 16 ^ length digits.now }
+{
+    let mut n = 0;
+    for b in digits {
+        n = n * 16 + digit(*b, 16);
     }
-}
-
-fn two_digits(s: &[u8], at: usize) -> usize
-    requires { at + 2 ≤ length s.now }
-    ensures { result < 256 }
-{
-    digit(s[at]) * 16 + digit(s[at + 1])
-}
-
-pub fn three_digits(s: &[u8], at: usize) -> usize
-    requires { at + 3 ≤ length s.now }
-    ensures { result < 4096 }
-{
-    digit(s[at]) * 256 + two_digits(s, at + 1)
-}
-
-// The place of the first such byte from `from` on, or the length.
-pub fn until(s: &[u8], from: usize, b: u8) -> usize
-    requires { from ≤ length s.now }
-    ensures { (from ≤ result) × (result ≤ length s.now) }
-{
-    let mut i = from;
-    while i < s.len() {
-        if s[i] == b {
-            return i;
-        }
-        i += 1;
-    }
-    i
+    n
 }
 
 // Each five digits are an offset and the byte to put there.
 pub fn change(bytes: &mut [u8], digits: &[u8]) {
-    let mut i = 0;
-    while i + 5 <= digits.len() {
-        let offset = three_digits(digits, i);
+    for five in digits.chunks_exact(5) {
+        let offset = number(&five[..3]);
         if bytes.len() <= offset {
             return;
         }
-        bytes[offset] = two_digits(digits, i + 3) as u8;
-        i += 5;
+        bytes[offset] = number(&five[3..]) as u8;
     }
 }
 
-fn digest(bytes: &[u8]) -> u64
-    ensures { result < 4294967296 }
-{
-    let mut h: u64 = 0;
-    let mut i = 0;
-    while i < bytes.len() {
-        h = (h * 65599 + bytes[i] as u64) % 4294967291;
-        i += 1;
+fn digest(bytes: &[u8]) -> u32 {
+    let mut h = 0;
+    for b in bytes {
+        h = (h * 65599 + u64::from(*b)) % 4294967291;
     }
-    h
+    h as u32
+}
+
+// Two hexadecimal digits a byte.
+fn put_hex(out: &mut Answers, bytes: &[u8])
+    requires { HasRoom (2 * length bytes.now) out.old }
+    ensures { AddsAtMost (2 * length bytes.now) out.old out.new }
+{
+    for b in bytes {
+        out.push(DIGITS[(*b / 16) as usize]);
+        out.push(DIGITS[(*b % 16) as usize]);
+    }
 }
 
 // A space and the digest.
-pub fn put_digest(out: &mut [u8], at: usize, bytes: &[u8]) -> usize
-    requires { at + 9 ≤ length out.old }
-    ensures { result ≤ at + 9 }
+pub fn put_digest(out: &mut Answers, bytes: &[u8])
+    requires { HasRoom 9 out.old }
+    ensures { AddsAtMost 9 out.old out.new }
 {
-    let mut digits = [0u8; 16];
-    let k = io::hex(digest(bytes), 8, &mut digits);
-    let to = crate::put(out, at, b' ');
-    crate::put_all(out, to, &digits[..k])
+    out.push(b' ');
+    put_hex(out, &digest(bytes).to_be_bytes());
 }
 
-// `ok`, or `no` and the figures.
-pub fn put_outcome(out: &mut [u8], at: usize, a: Answer) -> usize
-    requires { at + 86 ≤ length out.old }
-    ensures { result ≤ at + 86 }
+// A double's bits, or `nan`.
+pub fn put_double(out: &mut Answers, v: f64)
+    requires { HasRoom 16 out.old }
+    ensures { AddsAtMost 16 out.old out.new }
 {
-    match a {
-        Answer::Accepted => crate::put_all(out, at, b"ok"),
-        Answer::Refused(e) => {
-            let to = crate::put_all(out, at, b"no");
-            crate::put_numbers(out, to, cd::figures(e))
-        }
+    if v.is_nan() {
+        return crate::put_all(out, b"nan");
     }
+    put_hex(out, &v.to_bits().to_be_bytes());
 }

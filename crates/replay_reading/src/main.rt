@@ -2,154 +2,88 @@
 // the order stored.
 #![tactic(auto)]
 
-ghost use Rattle.std.specs.Prelude.{◌+◌, ◌≤◌, ◌<◌, ◌≡◌, length};
-ghost use Rattle.cd.specs.Diagrams.{pair_limit, place_of};
+ghost use Rattle.lines.specs.Written.{HasRoom, AddsAtMost};
 
-use cd::{Cd, Edge, Node, Pair};
+use cd::{Cd, Edge, LIMIT, Node, PAIRS};
+use lexicon::Reading;
+use lines::Answers;
+use lines::spelled;
 
-// A value's bits, or 0 for a NaN, which no text gives.
-fn bits(v: f64) -> u64 {
-    if v == v { f64::to_bits(v) } else { 0 }
-}
-
-fn hex(out: &mut [u8], at: usize, n: u64) -> usize
-    requires { at + 16 ≤ length out.old }
-    ensures { result ≤ at + 16 }
-{
-    let mut digits = [0u8; 16];
-    let k = io::hex(n, 16, &mut digits);
-    lines::put_all(out, at, &digits[..k])
-}
-
-fn node(out: &mut [u8], at: usize, n: Node) -> usize
-    requires { at + 18 ≤ length out.old }
-    ensures { result ≤ at + 18 }
+fn put_node(out: &mut Answers, n: Node)
+    requires { HasRoom 18 out.old }
+    ensures { AddsAtMost 18 out.old out.new }
 {
     match n {
-        Node::Unringed => lines::put_all(out, at, b" o"),
+        Node::Unringed => lines::put_all(out, b" o"),
         Node::Ringed(v) => {
-            let to = lines::put_all(out, at, b" x");
-            hex(out, to, bits(v))
+            lines::put_all(out, b" x");
+            spelled::put_double(out, v);
         }
         Node::Snub(v) => {
-            let to = lines::put_all(out, at, b" s");
-            hex(out, to, bits(v))
+            lines::put_all(out, b" s");
+            spelled::put_double(out, v);
         }
     }
 }
 
-fn nodes(out: &mut [u8], at: usize, cd: Cd) -> usize
-    requires { at + 162 ≤ length out.old }
-    ensures { result ≤ at + 162 }
+// (By the lesser of two limits, so that no law of the reader is needed.)
+fn put_nodes(out: &mut Answers, cd: &Cd)
+    requires { HasRoom 162 out.old }
+    ensures { AddsAtMost 162 out.old out.new }
 {
-    let count = cd.count;
-    let mut to = at;
-    let mut i = 0;
-    // Both limits are tested, so that no law of the reader is needed; and so below.
-    while i < cd::LIMIT {
-        if count <= i {
-            return to;
+    for p in &cd.nodes[..cd.count.min(LIMIT)] {
+        put_node(out, p.node);
+    }
+}
+
+// The edge that was stored as the rank-th, behind the nodes that it joins, the smaller first.
+fn stored(cd: &Cd, rank: u32) -> Option<(usize, usize, Edge)> {
+    for b in 0..LIMIT {
+        for a in 0..=b {
+            let pair = cd.pairs[cd::pair_place(a, b)];
+            if pair.rank == rank {
+                return Some((a, b, pair.edge));
+            }
         }
-        let p = cd.nodes[i];
-        let n = p.node;
-        to = node(out, to, n);
-        i += 1;
     }
-    to
+    None
 }
 
-// The nodes of a pair, the smaller first.
-#[derive(Clone, Copy)]
-struct Ends {
-    a: usize,
-    b: usize,
-}
-
-// The pair at a place: row b has b + 1 of them, and a is what is left once the rows before it are taken off.
-fn pair_at(p: usize) -> Ends
-    requires { p < pair_limit }
-    ensures { (place_of result.a result.b ≡ p) × (result.a ≤ result.b) }
+fn put_edge(out: &mut Answers, a: usize, b: usize, e: Edge)
+    requires { HasRoom 84 out.old }
+    ensures { AddsAtMost 84 out.old out.new }
 {
-    let mut a = p;
-    let mut b = 0;
-    while b < a {
-        a -= b + 1;
-        b += 1;
+    lines::put_number(out, b' ', a as u64);
+    lines::put_number(out, b'-', b as u64);
+    lines::put_number(out, b':', u64::from(e.num));
+    lines::put_number(out, b'/', u64::from(e.den));
+}
+
+fn put_edges(out: &mut Answers, cd: &Cd)
+    requires { HasRoom 3780 out.old }
+    ensures { AddsAtMost 3780 out.old out.new }
+{
+    for k in 0..PAIRS {
+        let Some((a, b, e)) = stored(cd, k as u32 + 1) else {
+            return;
+        };
+        put_edge(out, a, b, e);
     }
-    Ends { a: a, b: b }
 }
 
-fn edge(out: &mut [u8], at: usize, p: usize, e: Edge) -> usize
-    requires { (at + 84 ≤ length out.old) × (p < pair_limit) }
-    ensures { result ≤ at + 84 }
-{
-    let j = pair_at(p);
-    let mut to = lines::put_number(out, at, b' ', j.a as u64);
-    to = lines::put_number(out, to, b'-', j.b as u64);
-    to = lines::put_number(out, to, b':', e.num as u64);
-    lines::put_number(out, to, b'/', e.den as u64)
-}
-
-// The place of the edge that was stored as the rank-th, or PAIRS.
-fn stored(pairs: [Pair; cd::PAIRS], rank: u32) -> usize
-    ensures { result ≤ pair_limit }
-{
-    let mut p = 0;
-    while p < cd::PAIRS {
-        let x = pairs[p];
-        if x.rank == rank {
-            return p;
-        }
-        p += 1;
-    }
-    p
-}
-
-fn edges(out: &mut [u8], at: usize, pairs: [Pair; cd::PAIRS]) -> usize
-    requires { at + 3780 ≤ length out.old }
-    ensures { result ≤ at + 3780 }
-{
-    let mut to = at;
-    let mut k: u32 = 0;
-    while k < 45 {
-        let p = stored(pairs, k + 1);
-        if cd::PAIRS <= p {
-            return to;
-        }
-        let x = pairs[p];
-        let e = x.edge;
-        to = edge(out, to, p, e);
-        k += 1;
-    }
-    to
-}
-
-fn line(text: &[u8], out: &mut [u8], at: usize) -> usize
-    requires { at + 4029 ≤ length out.old }
-    ensures { result ≤ at + 4029 }
+fn line(text: &[u8], out: &mut Answers)
+    requires { HasRoom 4029 out.old }
 {
     let r = lexicon::read(text, true);
-    let mut to = lines::put_answer(out, at, r);
-    // A refusal's diagram has neither nodes nor edges.
-    let read = r.read;
-    let cd = read.cd;
-    let pairs = cd.pairs;
-    to = nodes(out, to, cd);
-    to = edges(out, to, pairs);
-    lines::put(out, to, b'\n')
+    lines::put_answer(out, r);
+    if let Ok(Reading { cd, minimal: _ }) = r {
+        put_nodes(out, &cd);
+        put_edges(out, &cd);
+    }
+    out.push(b'\n');
 }
 
 fn main(rt: HostRuntime) {
     let mut text = io::large_buffer();
-    let n = lines::read_input(&rt, &mut text);
-    let mut out = lines::buffer();
-    let mut at = 0;
-    let mut from = 0;
-    while from < n {
-        let end = lines::line_end(&text[..n], from);
-        at = line(&text[from..end], &mut out, at);
-        at = lines::flushed(&rt, &out, at);
-        from = end + 1;
-    }
-    lines::write_output(&rt, &out[..at]);
+    lines::answer_lines(&rt, &mut text, line);
 }

@@ -1,11 +1,6 @@
 -- `cdlist::main` is safe and ends: no contract says what a program reads or writes.
-use Prim.Native.Nat.{◌-◌}
-use mathlib.Core.Path.{◌≡◌}
-use lib.ListN.{length}
+use Rattle.std.proofs.Common.{◌-◌}
 use Rattle.cdlist.proofs.main.Given as goal
-
-abbrev pub invariant-loop-from : goal.invariant-loop-from
-invariant-loop-from l = 16384 ≡ length l.out
 
 abbrev pub decreases-loop-from : goal.decreases-loop-from
 decreases-loop-from l = l.n - l.from

@@ -1,17 +1,24 @@
 -- `lines::argument_of` meets its contract.
 use borrow.Author.Tests.{lt-ltb, le-ltb}
+use Rattle.std.proofs.Common.{◌≡◌, ◌<◌, ◌≤◌, Bool, true, false, Some, None, refl, ◌∙◌, arith}
+use Rattle.std.specs.Bool.{then_some}
+use Rattle.float.specs.Pick.{pick}
 use Rattle.scan.specs.Ascii.{ascii}
 use Rattle.lines.specs.Arguments.{argument_of}
 use Rattle.lines.proofs.argument_of.Goals as goal
 
-pub returns-then-count-lt2 : goal.returns-then-count-lt2
-unfolding argument_of
-returns-then-count-lt2 c = rw (lt-ltb _ 2 c.if-count-lt2.true)
+wished : (b : Bool) → then_some b true ≡ pick b (Some true) None
+wished true = refl
+wished false = refl
 
-pub returns-then-count-gt2 : goal.returns-then-count-gt2
+pub returns-in-0 : goal.returns-in-0
 unfolding argument_of
-returns-then-count-gt2 c = rw (le-ltb _ 2 c.if-count-lt2.false, lt-ltb 2 _ c.if-count-gt2.true)
+returns-in-0 c = let h : c.args.count < 2 = omega arith in rw (lt-ltb _ 2 h)
 
-pub returns : goal.returns
+pub returns-in-2 : goal.returns-in-2
 unfolding argument_of ascii
-returns c = rw (le-ltb _ 2 c.if-count-lt2.false, le-ltb 2 _ c.if-count-gt2.false, c.is_word-infinite.ensures)
+returns-in-2 c = rw (c.in-2.is, ← c.is_word.ensures) (c.then_some.ensures ∙ wished c.is_word.result)
+
+pub returns-in_default : goal.returns-in_default
+unfolding argument_of
+returns-in_default c = let h : 2 < c.args.count = omega arith in let k : 2 ≤ c.args.count = omega arith in rw (le-ltb _ 2 k, lt-ltb 2 _ h)

@@ -1,11 +1,10 @@
--- `lines::spelled::change` is safe and ends. The invariant: the buffer keeps its length.
-use Prim.Native.Nat.{◌≤◌, ◌-◌}
-use mathlib.Core.Path.{◌≡◌}
-use lib.ListN.{length}
+-- `lines::spelled::change` is safe and ends. The invariant: digits come five at a time.
+use Rattle.std.proofs.Common.{◌≡◌}
+use Rattle.std.specs.Slice.Iter.{chunks_exact_size}
 use Rattle.lines.proofs.spelled.change.Given as goal
 
-abbrev pub invariant-loop-i : goal.invariant-loop-i
-invariant-loop-i l = (l.i ≤ length l.digits) × (length l.bytes ≡ length l.initial.bytes)
-
-abbrev pub decreases-loop-i : goal.decreases-loop-i
-decreases-loop-i l = length l.digits - l.i
+abbrev pub invariant-loop-five : goal.invariant-loop-five
+invariant-loop-five l =
+    (goal.iterator-loop-five).can_next l.five-iterator
+    × (goal.iterator-loop-five).is_finite l.five-iterator
+    × (chunks_exact_size l.five-iterator ≡ 5)
