@@ -114,6 +114,7 @@ pub fn take_exponent(t: &[u8], at: usize) -> Option<Exponent>
 }
 
 // The exponent minus the count of digits after the point.
+#[tactic(auto, unfolding(crate::specs::Literals::power))]
 pub fn power(minus: bool, e: u64, f: usize) -> i64
     requires { (e ≤ 1000) × (f ≤ 1000) }
     ensures { result ≡ power minus e f }
