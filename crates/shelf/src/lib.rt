@@ -1,4 +1,4 @@
-// Shelf files: the filing records of many articles in one file, each greater in byte order than the one before. No call has a `requires`; none touches a disk.
+// Shelf files: the filing records of many articles in one file, each greater in byte order than the one before. No call but `place` has a `requires`; none touches a disk.
 #![tactic(auto)]
 
 ghost use Rattle.std.specs.Prelude.{◌++◌, ◌≡◌, ◌+◌, ◌*◌, ◌≤◌, length, take, drop, MatchResult};
@@ -27,7 +27,7 @@ fn place_count(file: &[u8]) -> Result<usize, CdError>
 }
 
 // The bytes at place i.
-fn place(file: &[u8], i: usize) -> &[u8]
+pub fn place(file: &[u8], i: usize) -> &[u8]
     requires { record_length limit * (i + 1) ≤ length file.now }
     ensures { result.now ≡ place_at (record_length limit) file.now i }
 {
