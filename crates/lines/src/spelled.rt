@@ -1,5 +1,5 @@
 // What the replay programs of records share: bytes spelled in a line by hexadecimal digits, and answers that show bytes by a digest.
-ghost use Rattle.std.specs.Prelude.{◌*◌, ◌≤◌, ◌<◌, ◌^◌, length};
+ghost use Rattle.std.specs.Prelude.{◌*◌, ◌≤◌, ◌<◌, ◌^◌, length, max};
 ghost use Rattle.lines.specs.Written.{HasRoom, AddsAtMost};
 
 use crate::Answers;
@@ -20,7 +20,7 @@ pub fn digit(b: u8, base: usize) -> usize
 }
 
 // The number that up to three hexadecimal digits mean.
-pub fn number(digits: &[u8]) -> usize
+fn number(digits: &[u8]) -> usize
     requires { length digits.now ≤ 3 }
     ensures { result < 16 ^ length digits.now }
 {
@@ -29,6 +29,16 @@ pub fn number(digits: &[u8]) -> usize
         n = n * 16 + digit(*b, 16);
     }
     n
+}
+
+// The number that the first three digits mean, or another where they are missing.
+pub fn number_or(digits: &[u8], other: usize) -> usize
+    ensures { result ≤ max 4095 other }
+{
+    match digits.get(..3) {
+        Some(three) => number(three),
+        None => other,
+    }
 }
 
 // Each five digits are an offset and the byte to put there.
