@@ -35,9 +35,8 @@ fn reflection(units: &[f64; SQUARE], m: &[f64; SQUARE], i: usize, n: usize) -> [
 {
     let mirror = cox::column(m, i, n);
     let square = cox::dot(mirror, mirror);
-    let factors: [f64; LIMIT] = std::array::from_fn(|c| 2.0
-        * cox::dot(cox::column(units, c, n), mirror)
-        / square);
+    let factor = |c| 2.0 * cox::dot(cox::column(units, c, n), mirror) / square;
+    let factors: [f64; LIMIT] = std::array::from_fn(factor);
     cox::square(|c, r| units[LIMIT * c + r] - m[LIMIT * i + r] * factors[c])
 }
 
