@@ -11,6 +11,7 @@ use Rattle.length.specs.Literals.{Run, digits, number, fraction, exponent, judge
 use Rattle.length.specs.Kept.{Took, kept}
 use Rattle.length.specs.declared.Digits.{Digits}
 use Rattle.length.specs.declared.Exponent.{Exponent}
+use Rattle.length.proofs.Exponents.{kept_small}
 use Rattle.length.proofs.Bounds.{judged_kept}
 use Rattle.scan.proofs.Rest.{drop_at}
 use Rattle.length.proofs.Runs.{number_kept, number_append}
@@ -53,3 +54,5 @@ module _ (minus : Bool) (t : List ℕ) (at : ℕ) (a : Digits) (k : Took t at 0 
       (j.value ∙ rw (k.value, number_kept, number_append))
       (omega (arith, j.count))
       (rw j.rest at q)
+
+pub ruleset decimal_laws = (kept_small, fraction_at_other, fraction_at_end, decimal_plain, decimal_pointed)

@@ -56,3 +56,5 @@ module _ (t : List ℕ) (at : ℕ) where
   pub exponent_at_end : length t ≤ at → Some (record { minus = false; value = 0; count = 0 }) ≡ kept (exponent (drop at t))
   unfolding exponent kept
   exponent_at_end h = rw (drop_of_length-le t h)
+
+pub ruleset exponent_laws = (exponent_at_e, no_exponent_at_e, exponent_at_other, exponent_at_end)

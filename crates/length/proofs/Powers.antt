@@ -1,4 +1,5 @@
--- The power of ten by its size: the size of a sum is at most that of its parts and one more. So an exponent of 1000 is out of range whatever stands after the point. Assumes nothing.
+-- The power of ten by its size: the size of a sum is at most that of its parts and one more. So an exponent of 1000 is out of range
+-- whatever stands after the point. Assumes nothing.
 use Prim.Native.Nat.{ℕ, zero, suc, ◌+◌, ◌-◌, ◌≤◌, ◌<◌}
 use mathlib.Core.Bool.{Bool, true, false, cond}
 use mathlib.Core.Path.{◌≡◌}

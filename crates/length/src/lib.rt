@@ -86,6 +86,7 @@ pub struct Exponent {
 }
 
 // The exponent that follows a number's digits, if one or nothing follows them.
+#[tactic(auto, using(crate::proofs::Exponents::exponent_laws))]
 pub fn take_exponent(t: &[u8], at: usize) -> Option<Exponent>
     requires { at ≤ length t.now }
     ensures { result ≡ kept (exponent (drop at t.now)) }
@@ -149,6 +150,7 @@ pub fn judged(w: u64, n: usize, f: usize, x: Option<Exponent>, minus: bool) -> L
 const MOST: u64 = 1_000_000_000_000_000;
 
 // Digits with at most one point, at least one digit, and an exponent, from `at` on.
+#[tactic(auto, using(crate::proofs::Decimals::decimal_laws))]
 pub fn decimal(t: &[u8], at: usize, minus: bool) -> Length
     requires { at ≤ length t.now }
     ensures { result ≡ decimal minus (drop at t.now) }

@@ -3,7 +3,7 @@
 use Prim.Native.Nat.{ℕ, ◌+◌, ◌*◌, ◌-◌, ◌^◌, ◌≤◌, ◌<◌, min}
 use mathlib.Core.Bool.{Bool, true, false}
 use mathlib.Core.List.{List, [], ◌∷◌}
-use mathlib.Core.Path.{◌≡◌, refl}
+use mathlib.Core.Path.{◌≡◌, refl, sym, ap, ◌∙◌}
 use native.Mathlib.Decide.{dec_le}
 use native.Mathlib.Omega.{arith}
 use lib.ListN.{length, get_or, drop, drop_of_length-le}
@@ -13,10 +13,13 @@ use Rattle.std.specs.Option.{unwrap_or}
 use Rattle.float.specs.Pick.{pick}
 use Rattle.cd.specs.declared.CdError.{CdError}
 use Rattle.cd.specs.declared.CdError.TheVariants.{UnexpectedEnding, ParseError, InvalidSymbol}
+use Rattle.cd.specs.declared.Edge.{Edge}
 use Rattle.scan.specs.Bytes.{is, is_digit, digit}
-use Rattle.scan.specs.Edges.{ends_run, sort_of, Part, empty, longer, closes, last_two, by_sort, run}
+use Rattle.scan.specs.Edges.{ends_run, sort_of, Part, empty, longer, closes, last_two, by_sort, run, if_any, optional, edge_at}
 use Rattle.scan.specs.declared.Sort.TheVariants.{Digit, Slash, Terminator, Other}
-use Rattle.scan.specs.Kept.{open_part}
+use Rattle.scan.specs.Kept.{open_part, kept, kept_if_any}
+use Rattle.scan.specs.Spaces.{skip}
+use Rattle.scan.proofs.KeptLaws.{kept_any}
 use Rattle.scan.proofs.Rest.{drop_at}
 
 -- ---- sorts and parts
@@ -107,3 +110,30 @@ module _ (s : List ℕ) (i : ℕ) (before : Option ℕ) (p : Part) where
   pub run_at_end : i ≡ length s → Err (UnexpectedEnding (length s)) ≡ run (drop i s) i before p
   unfolding run
   run_at_end e = let h : length s ≤ i = omega arith in rw (drop_of_length-le s h, e)
+
+-- ---- an optional edge at a position, the first byte from there on that is no space being at i
+
+module _ (s : List ℕ) (at i : ℕ) (skipped : i ≡ skip (drop at s) at) where
+  edge_at_digit : i < length s → is_digit (get_or s i 0) ≡ true → if_any (kept (run (drop i s) i None empty)) ≡ kept_if_any (edge_at s at)
+  unfolding edge_at optional
+  edge_at_digit h e = rw (← skipped, drop_at s i h, e, kept_any)
+
+  pub edge_read : (x : Edge × ℕ) → i < length s → is_digit (get_or s i 0) ≡ true → kept (run (drop i s) i None empty) ≡ Ok x → Ok (Some x) ≡ kept_if_any (edge_at s at)
+  edge_read x h e k = ap if_any (sym k) ∙ edge_at_digit h e
+
+  pub edge_refused : (r : CdError) → i < length s → is_digit (get_or s i 0) ≡ true → kept (run (drop i s) i None empty) ≡ Err r → Err r ≡ kept_if_any (edge_at s at)
+  edge_refused r h e k = ap if_any (sym k) ∙ edge_at_digit h e
+
+  pub no_edge_at_other : i < length s → is_digit (get_or s i 0) ≡ false → Ok None ≡ kept_if_any (edge_at s at)
+  unfolding edge_at optional kept_if_any
+  no_edge_at_other h e = rw (← skipped, drop_at s i h, e)
+
+  pub no_edge_at_end : length s ≤ i → Ok None ≡ kept_if_any (edge_at s at)
+  unfolding edge_at optional kept_if_any
+  no_edge_at_end h = rw (← skipped, drop_of_length-le s h)
+
+-- ---- what the functions' proofs use
+
+pub ruleset run_laws = (digit_of_sort, open_value, run_at_digit, run_at_slash, run_at_terminator, run_at_slash_refused, run_at_terminator_refused, run_at_other, run_at_end)
+
+pub ruleset edge_laws = (edge_read, edge_refused, no_edge_at_other, no_edge_at_end)

@@ -108,6 +108,7 @@ pub fn closed(part: Option<u64>, i: usize) -> Result<u32, CdError>
 
 // The edge whose run starts at `at`. The open part's value is kept up to 2^32, where all that is no 32-bit number stands.
 // (The parts are locals, and a step has no answer of its own: it would go through memory at each byte.)
+#[tactic(auto, using(crate::proofs::Runs::run_laws), unfolding(crate::specs::Kept::kept))]
 pub fn parse_edge(s: &[u8], at: usize) -> Result<(Edge, usize), CdError>
     requires { (0 < at) × (at ≤ length s.now) }
     ensures { result ≡ kept (run (drop at s.now) at None empty) }
@@ -130,6 +131,7 @@ pub fn parse_edge(s: &[u8], at: usize) -> Result<(Edge, usize), CdError>
 }
 
 // An optional edge at `at`, after spaces, and the place after it.
+#[tactic(auto, using(crate::proofs::Runs::edge_laws))]
 pub fn create_edge(s: &[u8], at: usize) -> Result<Option<(Edge, usize)>, CdError>
     requires { (0 < at) × (at ≤ length s.now) }
     ensures { result ≡ kept_if_any (edge_at s.now at) }
