@@ -69,8 +69,9 @@ fn put_each<T: Shown>(all: &[T], out: &mut [T::Item])
 {
     let mut at = 0;
     for x in all {
-        x.put(&mut out[at..]);
-        at += x.length();
+        let n = x.length();
+        x.put(&mut out[at..at + n]);
+        at += n;
     }
 }
 
