@@ -11,7 +11,6 @@ use lib.Dec.{ltb, eqb}
 use lib.Ieee.{Float}
 use lib.ListN.{set}
 use Rattle.float.specs.Pick.{pick}
-use Rattle.cox.specs.Shown.{put_column}
 use Rattle.cox.specs.Squares.{Square, nil, zeros, put, flat_square}
 use Rattle.cox.proofs.Flats.{square_put, square_same}
 
@@ -28,6 +27,10 @@ pick_more k c v a b e = split (ltb c k) refl
     split false p = up_to (eq-or-lt_of_le (ltb-false c k p))
 
 -- ---- the rows of a column
+
+-- the square whose column c has f in its first k rows
+unfoldable pub put_column : Square → ℕ → (ℕ → Float) → ℕ → Square
+put_column m c f k i j = pick (eqb i c && ltb j k) (f j) (m i j)
 
 pub column_none : (N : ℕ) (g : Square) (c : ℕ) (f : ℕ → Float) → flat_square N g ≡ flat_square N (put_column g c f 0)
 unfolding put_column

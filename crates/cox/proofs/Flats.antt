@@ -3,13 +3,14 @@
 use mathlib.Core.List.{List, [], ◌∷◌, ◌++◌}
 use mathlib.Core.Logic.{◌≢◌, ⊎_elim}
 use mathlib.Core.Path.{◌≡◌, refl, sym, ap, ap₂, ◌∙◌}
-use Prim.Native.Nat.{ℕ, zero, suc, ◌+◌, ◌*◌, ◌<◌}
+use Prim.Native.Nat.{ℕ, zero, suc, ◌+◌, ◌*◌, ◌<◌, ◌≤◌}
 use native.Mathlib.Nat.{not-suc-le-zero, le_refl, le_of_suc-le-suc, eq-or-lt_of_le, mul-le-mul_left}
 use native.Mathlib.Omega.{arith}
 use borrow.Author.Tests.{eq-eqb, ne_eqb}
 use lib.Ieee.{Float}
-use lib.ListN.{length, get_or, set, get_or-append}
-use lib.Seq.{get_or-append-add, set-append_left, set_at}
+use lib.ListN.{length, get_or, set, take, drop, get_or-append}
+use lib.Seq.{get_or-append-add, set-append_left, set_at, take_all, drop-append_seam}
+use Rattle.std.proofs.lemmas.List.{take-append-le}
 use Rattle.filing.specs.Bytes.{blocks}
 use Rattle.cd.proofs.Arrays.{set_append_add}
 use Rattle.filing.proofs.Bytes.{blocks_same, blocks_split, length_blocks, length_singles, singles_at, one_more}
@@ -29,6 +30,16 @@ module _ {A : Type 0} where
   pub flat_at : (N : ℕ) (f : ℕ → A) (d : A) (i : ℕ) → i < N → get_or (flat N f) i d ≡ f i
   unfolding flat
   flat_at N f d i h = singles_at f N d i h
+
+  -- its front
+  pub flat_front : (N : ℕ) (f : ℕ → A) (k : ℕ) → k ≤ N → take k (flat N f) ≡ flat k f
+  unfolding flat
+  flat_front zero f k h = let none : k ≡ 0 = omega arith in rw none
+  flat_front (suc N) f k h =
+      ⊎_elim
+      (λ (e : k ≡ suc N). take_all k (flat (suc N) f) (omega (arith, length_flat (suc N) f)) ∙ ap (λ n. flat n f) (sym e))
+      (λ (l : k < suc N). take-append-le k (flat N f) (f N ∷ []) (omega (arith, length_flat N f)) ∙ flat_front N f k (omega arith))
+      (eq-or-lt_of_le h)
 
   -- the row with v in place i
   pub flat_set : (N : ℕ) (f g : ℕ → A) (i : ℕ) (v : A) → i < N → g i ≡ v → ((k : ℕ) → k < N → k ≢ i → g k ≡ f k) → set (flat N f) i v ≡ flat N g
@@ -69,6 +80,15 @@ module _ (N : ℕ) where
       let inside : r < length (flat N (m c)) = omega (arith, length_flat N (m c)) in
       rw (e, ← front) (get_or-append-add (columns_of m c) (flat N (m c) ++ rest) r d)
       ∙ get_or-append (flat N (m c)) rest d r inside ∙ flat_at N (m c) d r l
+
+  -- the first k rows of a column
+  pub column_front : (m : Square) (c k : ℕ) → c < N → k ≤ N → take k (drop (N * c) (flat_square N m)) ≡ flat k (m c)
+  unfolding flat_square columns_of
+  column_front m c k h l =
+      let (rest, e) = blocks_split (λ i. flat N (m i)) N c h in
+      let behind : drop (N * c) (columns_of m c ++ (flat N (m c) ++ rest)) ≡ flat N (m c) ++ rest =
+      rw (← length_columns m c) (drop-append_seam (columns_of m c) (flat N (m c) ++ rest)) in
+      ap (λ z. take k (drop (N * c) z)) e ∙ ap (take k) behind ∙ take-append-le k (flat N (m c)) rest (omega (arith, length_flat N (m c))) ∙ flat_front N (m c) k l
 
   put_here : (m : Square) (c r : ℕ) (v : Float) → put m c r v c r ≡ v
   unfolding put

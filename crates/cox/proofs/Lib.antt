@@ -1,6 +1,5 @@
 -- The laws of squares in arrays, of what is computed from them, and of the matrices.
 pub mod Flats
-pub mod Filled
 pub mod Columns
 pub mod Sums
 pub mod Entries

@@ -1,5 +1,5 @@
 -- How the code holds a matrix.
-use Rattle.std.specs.Prelude.{◌&&◌, List, ℕ, ltb, eqb, Float, length, get_or}
+use Rattle.std.specs.Prelude.{List, ℕ, eqb, Float, length, get_or}
 use Rattle.std.specs.Float.{nan}
 use Rattle.float.specs.Pick.{pick}
 use Rattle.cd.specs.Diagrams.{Stored, limit, place_of}
@@ -18,10 +18,6 @@ pair_value p = pick (eqb p.rank 0) two (quotient p.edge)
 -- the square that such values tell
 unfoldable pub entries : List Float → Square
 entries vs i j = pick (eqb i j) one (get_or vs (place_of i j) nan)
-
--- the square whose column c has f in its first k rows
-unfoldable pub put_column : Square → ℕ → (ℕ → Float) → ℕ → Square
-put_column m c f k i j = pick (eqb i c && ltb j k) (f j) (m i j)
 
 -- past the count, the matrix of nodes that nothing joins
 unfoldable pub cox_of : List Node → List Stored → Cox

@@ -6,64 +6,55 @@ ghost use Rattle.cox.specs.Shown.{family_of};
 ghost use Rattle.float.specs.Pick.{pick};
 
 use crate::Cox;
-use cd::{LIMIT, SQUARE};
+use cd::LIMIT;
 
 // Whether the letter and the size are a family's.
+#[tactic(auto, using(std::proofs::lemmas::Bool::Decides::nat_tests), unfolding(crate::specs::Families::is_family))]
 pub fn is_family(letter: u8, size: usize) -> bool
     ensures { result ≡ is_family limit letter size }
 {
-    if LIMIT < size {
-        return false;
-    }
-    match letter {
-        b'A' => 1 <= size,
-        b'B' => 2 <= size,
-        b'H' => 2 <= size,
-        b'D' => 3 <= size,
-        b'E' => 4 <= size,
-        _ => false,
-    }
+    size <= LIMIT
+        && match letter {
+            b'A' => 1 <= size,
+            b'B' | b'H' => 2 <= size,
+            b'D' => 3 <= size,
+            b'E' => 4 <= size,
+            _ => false,
+        }
 }
 
 // Whether i, j is the entry a, b or the mirrored one.
+#[tactic(auto, using(std::proofs::lemmas::Bool::Decides::nat_tests), unfolding(crate::specs::Families::is_entry))]
 fn is_entry(a: usize, b: usize, i: usize, j: usize) -> bool
     ensures { result ≡ is_entry a b i j }
 {
-    if i == a {
-        if j == b {
-            return true;
-        }
-    }
-    if i == b {
-        return j == a;
-    }
-    false
+    (i == a && j == b) || (i == b && j == a)
 }
 
 // A chain of 3s.
+#[tactic(auto, using(std::proofs::lemmas::Bool::Decides::nat_tests), unfolding(crate::specs::Families::chain))]
 pub fn chain(i: usize, j: usize) -> u32
     requires { (i < limit) × (j < limit) }
     ensures { result ≡ the_chain i j }
 {
     if i == j {
-        return 1;
+        1
+    } else if i + 1 == j || j + 1 == i {
+        3
+    } else {
+        2
     }
-    if i + 1 == j {
-        return 3;
-    }
-    if j + 1 == i {
-        return 3;
-    }
-    2
 }
 
 // The entry x, or v at a, b.
+#[tactic(auto, using(std::proofs::lemmas::Bool::Decides::nat_tests))]
 pub fn made(a: usize, b: usize, v: u32, x: u32, i: usize, j: usize) -> u32
     ensures { result ≡ pick (is_entry a b i j) v x }
 {
     if is_entry(a, b, i, j) { v } else { x }
 }
 
+#[tactic(auto, using(std::proofs::lemmas::Bool::Decides::nat_tests), unfolding(crate::specs::Families::made, crate::specs::Families::family))]
 fn family(letter: u8, i: usize, j: usize) -> u32
     requires { (i < limit) × (j < limit) }
     ensures { result ≡ the_family letter i j }
@@ -82,12 +73,8 @@ fn family(letter: u8, i: usize, j: usize) -> u32
 pub fn family_matrix(letter: u8, size: usize) -> Cox
     ensures { result ≡ family_of letter size }
 {
-    let mut at = crate::zeros();
-    for k in 0..SQUARE {
-        at[k] = family(letter, k / LIMIT, k % LIMIT) as f64;
-    }
     Cox {
-        at: at,
+        at: crate::square(|c, r| family(letter, c, r) as f64),
         count: size,
     }
 }

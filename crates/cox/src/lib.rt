@@ -1,11 +1,11 @@
 // cox/mod.rs of miratope-core, with cox of its cd.rs: the matrix of a diagram, and the families. A square of doubles is one array, row r of column c at LIMIT × c + r.
 #![tactic(auto)]
 
-ghost use Rattle.std.specs.Prelude.{List, map, ◌≡◌, ◌<◌, ◌≤◌};
+ghost use Rattle.std.specs.Prelude.{List, ◌≡◌, ℕ, ◌<◌, ◌≤◌, Float};
 ghost use Rattle.cd.specs.Diagrams.{Stored, limit, cd_of};
 ghost use Rattle.cd.specs.declared.Node.{Node};
-ghost use Rattle.cox.specs.Shown.{pair_value, entries, put_column, cox_of};
-ghost use Rattle.cox.specs.Squares.{Square, zeros as the_zeros, flat_square, dot as the_dot};
+ghost use Rattle.cox.specs.Shown.{pair_value, entries, cox_of};
+ghost use Rattle.cox.specs.Squares.{Square, zeros as the_zeros, flat, flat_square, dot as the_dot};
 
 use cd::{Cd, LIMIT, PAIRS, Pair, SQUARE};
 
@@ -24,27 +24,29 @@ pub fn zeros() -> [f64; SQUARE]
     [0.0; SQUARE]
 }
 
+// The square with entry(c, r) in row r of column c.
+pub fn square<F: Fn(usize, usize) -> f64>(entry: F) -> [f64; SQUARE]
+    requires { (c r : ℕ) → c < limit → r < limit → F.pre entry c r }
+    ensures { (m : Square) → ((c r : ℕ) (x : Float) → c < limit → r < limit → F.post entry c r x → x ≡ m c r) → result ≡ flat_square limit m }
+{
+    let mut at = zeros();
+    for c in 0..LIMIT {
+        for r in 0..LIMIT {
+            at[LIMIT * c + r] = entry(c, r);
+        }
+    }
+    at
+}
+
 // What stands for two different nodes, by the place of their pair.
 fn pair_value(p: Pair) -> f64
     ensures { result ≡ pair_value p }
 {
     if p.rank == 0 {
-        return 2.0;
+        2.0
+    } else {
+        p.edge.num as f64 / p.edge.den as f64
     }
-    let e = p.edge;
-    e.num as f64 / e.den as f64
-}
-
-// Of all pairs, so that each fraction is divided once.
-fn pair_values(pairs: [Pair; PAIRS]) -> [f64; PAIRS]
-    ensures { result ≡ map pair_value pairs }
-{
-    let mut out = [2.0; PAIRS];
-    for k in 0..PAIRS {
-        let p = pairs[k];
-        out[k] = pair_value(p);
-    }
-    out
 }
 
 // An entry of the matrix, by those values.
@@ -53,46 +55,38 @@ fn entry(values: &[f64; PAIRS], i: usize, j: usize) -> f64
     ensures { result ≡ entries values.now i j }
 {
     if i == j {
-        return 1.0;
-    }
-    values[cd::pair_place(i, j)]
-}
-
-// Column c of the matrix.
-fn put_column(values: &[f64; PAIRS], at: &mut [f64; SQUARE], c: usize)
-    requires { c < limit }
-    ensures { (m : Square) → at.old ≡ flat_square limit m → at.new ≡ flat_square limit (put_column m c (entries values.now c) limit) }
-{
-    for r in 0..LIMIT {
-        at[LIMIT * c + r] = entry(values, c, r);
+        1.0
+    } else {
+        values[cd::pair_place(i, j)]
     }
 }
 
+// Each fraction is divided once.
 pub fn matrix(cd: Cd) -> Cox
     ensures { (ns : List Node) (es : List Stored) → cd ≡ cd_of ns es → result ≡ cox_of ns es }
 {
-    let pairs = cd.pairs;
-    let values = pair_values(pairs);
-    let mut at = zeros();
-    for c in 0..LIMIT {
-        put_column(&values, &mut at, c);
-    }
+    let values = cd.pairs.map(pair_value);
     Cox {
-        at: at,
+        at: square(|c, r| entry(&values, c, r)),
         count: cd.count,
     }
 }
 
-// The sum of the products of the first k rows of the columns i and j, by rising index from 0.0.
-pub fn dot(m: &[f64; SQUARE], i: usize, j: usize, k: usize) -> f64
-    requires { (i < limit) × (j < limit) × (k ≤ limit) }
-    ensures { (f : Square) → m.now ≡ flat_square limit f → result ≡ the_dot (f i) (f j) k }
+// The first k rows of column i.
+pub fn column(m: &[f64; SQUARE], i: usize, k: usize) -> &[f64]
+    requires { (i < limit) × (k ≤ limit) }
+    ensures { (f : Square) → m.now ≡ flat_square limit f → result.now ≡ flat k (f i) }
 {
-    let mut s = 0.0;
-    let mut r = 0;
-    while r < k {
-        s = s + m[LIMIT * i + r] * m[LIMIT * j + r];
-        r += 1;
+    &m[LIMIT * i..LIMIT * i + k]
+}
+
+// The sum of the products, by rising index from 0.0.
+pub fn dot(xs: &[f64], ys: &[f64]) -> f64
+    ensures { (f g : ℕ → Float) (k : ℕ) → xs.now ≡ flat k f → ys.now ≡ flat k g → result ≡ the_dot f g k }
+{
+    let mut sum = 0.0;
+    for (x, y) in xs.iter().zip(ys) {
+        sum += *x * *y;
     }
-    s
+    sum
 }

@@ -5,9 +5,8 @@ mod Exactly
 pub mod RoundedOnce
 pub mod FiniteValues
 pub mod Quotients
-mod Steps
-mod Halves
-mod Nearest
+mod Units
 mod Ties
 mod Values
 mod NearestRoot
+mod MachineRoot

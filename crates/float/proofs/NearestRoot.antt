@@ -6,6 +6,7 @@ use mathlib.Core.Bool.{Bool, true, false, cond}
 use Prim.Native.Nat.{ℕ, zero, suc, ◌+◌, ◌*◌, ◌/◌, ◌^◌, ◌≤◌, ◌<◌, zero-le}
 use native.Mathlib.Nat.{le_trans, le_of_lt, lt_of_lt_of_le, not-le_of_lt, lt_of_not-le, mul_right_comm, mul-lt-mul_of_pos_right, mul-le-mul, mul-div_cancel, div-lt_iff_lt-mul}
 use native.Mathlib.Omega.{arith}
+use native.Mathlib.Decide.{dec_le}
 use borrow.Author.Tests.{le-leb, lt-leb, leb-true, leb-false}
 use lib.IntN.{ℤ}
 use lib.Dec.{T, lit≤}
@@ -15,9 +16,37 @@ use lib.Ieee.Bits.{of_bits-to_bits}
 use lib.Ieee.Exact.{HasValue}
 use lib.Ieee.Fits.{down_pos}
 use Rattle.float.specs.Root.{units, halfway, scaled, reaches, last, root_bits, root_of, Between, NearestRoot}
-use Rattle.float.proofs.Nearest.{halfway_mono, root_bits_is}
+use Rattle.float.proofs.Units.{halfway_mono}
 use Rattle.float.proofs.Ties.{no_tie}
-use Rattle.float.proofs.Values.{bits_value, bits_positive, finite_bits, fits_lt, lt_positive}
+use Rattle.float.proofs.Values.{bits_value, bits_positive, finite_bits, fits_lt}
+
+-- ---- `last` finds the last pattern that reaches
+
+module _ (u t : ℕ) (reached : halfway t * halfway t ≤ scaled u) (unreached : scaled u < halfway (t + 1) * halfway (t + 1)) where
+  up_to : (c : ℕ) → c ≤ t → reaches u c ≡ true
+  unfolding reaches
+  up_to c h = le-leb (halfway c * halfway c) (scaled u) (le_trans (mul-le-mul (halfway_mono c t h) (halfway_mono c t h)) reached)
+
+  past : (c : ℕ) → t < c → reaches u c ≡ false
+  unfolding reaches
+  past c h =
+      let m : halfway (t + 1) ≤ halfway c = halfway_mono (t + 1) c (omega arith) in
+      lt-leb (halfway c * halfway c) (scaled u) (lt_of_lt_of_le unreached (mul-le-mul m m))
+
+  last_is : (k b : ℕ) → b ≤ t → t < b + 2 ^ k → last u k b ≡ t
+  unfolding last
+  last_is zero b h l = omega arith
+  last_is (suc k) b h l =
+      elim (dec_le (b + 2 ^ k) t) [
+        | yes p ↦ ap (λ (x : Bool). last u k (cond x (b + 2 ^ k) b)) (up_to (b + 2 ^ k) p) ∙ last_is k (b + 2 ^ k) p (omega arith)
+        | no f ↦ ap (λ (x : Bool). last u k (cond x (b + 2 ^ k) b)) (past (b + 2 ^ k) (lt_of_not-le f)) ∙ last_is k b h (lt_of_not-le f)
+      ]
+
+  root_bits_is : t < 2 ^ 63 → root_bits u ≡ t
+  unfolding root_bits
+  root_bits_is h = last_is 63 0 (omega arith) (omega arith)
+
+-- ---- where it ends
 
 either : (b : Bool) → (b ≡ true) ⊎ (b ≡ false)
 either true = inl refl
@@ -69,7 +98,7 @@ module _ (u : ℕ) (h : u < 2 ^ 2098) where
   unfolding reaches
   high = leb-false _ _ turned.1
 
-  finite : root_bits u < 0x7ff0_0000_0000_0000
+  pub finite : root_bits u < 0x7ff0_0000_0000_0000
   finite = lt_of_not-le (λ (k : 0x7ff0_0000_0000_0000 ≤ root_bits u). not-le_of_lt (beyond u (root_bits u) h k) low)
 
 only : (u s : ℕ) → s < 2 ^ 63 → Between u s → s ≡ root_bits u
@@ -80,30 +109,33 @@ strict h f = omega arith
 
 -- the theorem, for a finite double above zero; a zero is its own root by definition
 module _ (m : ℕ) (e : ℤ) (held : T (fits binary64 (fin false (suc m) e))) where
-  abbrev v : Float
+  abbrev pub v : Float
   v = fin false (suc m) e
 
-  abbrev n : ℕ
+  abbrev pub n : ℕ
   n = to_bits binary64 v
 
-  of_v : HasValue v false (units n) (2 ^ 1074)
+  pub of_v : HasValue v false (units n) (2 ^ 1074)
   of_v = subst (λ (x : Float). HasValue x false (units n) (2 ^ 1074)) (of_bits-to_bits binary64 v held) (bits_value n (finite_bits m e held))
 
   counted : suc m * up e * 2 ^ 1074 / down e ≡ units n
   counted = ap (λ (x : ℕ). x / down e) of_v.1 ∙ mul-div_cancel (units n) (down_pos e)
 
-  few : units n < 2 ^ 2098
+  pub few : units n < 2 ^ 2098
   few =
       subst (λ (x : ℕ). x < 2 ^ 2098) counted
       ((div-lt_iff_lt-mul (down_pos e)).1
       (subst (λ (x : ℕ). suc m * up e * 2 ^ 1074 < x) (mul_right_comm (2 ^ 1024) (down e) (2 ^ 1074)) (mul-lt-mul_of_pos_right (fits_lt m e held) (pow_pos 1074))))
 
   some : 0 < n
-  some = bits_positive v held (lt_positive m e)
+  some = bits_positive m e held
 
-  of_r : root_of v ≡ of_bits binary64 (root_bits (units n))
+  pub of_r : root_of v ≡ of_bits binary64 (root_bits (units n))
   unfolding root_of
   of_r = ap (λ (x : ℕ). of_bits binary64 (root_bits x)) counted
+
+  pub between : Between (units n) (root_bits (units n))
+  between = record { low = strict (low (units n) few) (no_tie n (root_bits (units n)) some); high = high (units n) few }
 
   pub root_nearest : NearestRoot v (root_of v)
   root_nearest = record {
@@ -112,7 +144,7 @@ module _ (m : ℕ) (e : ℤ) (held : T (fits binary64 (fin false (suc m) e))) wh
     t = root_bits (units n);
     of_r = of_r;
     r_finite = subst (λ (x : Float). HasValue x false (units (root_bits (units n))) (2 ^ 1074)) (sym of_r) (bits_value (root_bits (units n)) (finite (units n) few));
-    nearest = record { low = strict (low (units n) few) (no_tie n (root_bits (units n)) some); high = high (units n) few };
+    nearest = between;
     only = only (units n);
     no_tie = λ (b : ℕ). no_tie n b some;
   }

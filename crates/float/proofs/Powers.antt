@@ -24,10 +24,6 @@ size (pos k) h = leb-true k 22 (both true (leb k 22) h).1
 size (negsuc k) h = let l : k ≤ 21 = leb-true k 21 (both (leb k 21) true h).0 in omega arith
 
 -- p counts up
-pub up_size : (p : ℤ) → in_range p ≡ true → le_z (pos 0) p ≡ true → T (non_neg p) × Fits w64 (nat_abs p)
-up_size (pos k) h t = let l = size (pos k) h in (tt, record { fits = omega arith })
-up_size (negsuc k) h t = absurd (true≢false (sym t))
-
 pub up_value : (w : ℕ) (p : ℤ) → le_z (pos 0) p ≡ true → whole w *ᶠ whole (10 ^ nat_abs p) ≡ value w p
 unfolding value
 up_value w (pos k) t = refl

@@ -8,8 +8,7 @@ use native.Mathlib.Decide.{dec_le}
 use native.Mathlib.Omega.{arith}
 use lib.Pow.{pow_pos, pow-add}
 use Rattle.float.specs.Root.{units, halfway, scaled}
-use Rattle.float.proofs.Steps.{units_small, units_normal}
-use Rattle.float.proofs.Nearest.{units_at, units_mono}
+use Rattle.float.proofs.Units.{units_small, units_normal, units_at, units_mono}
 
 -- ---- a halfway point: an odd number times a power of two
 

@@ -5,4 +5,3 @@ pub mod Constants
 pub mod Decimal
 pub mod Cosine
 pub mod Root
-pub mod Steps

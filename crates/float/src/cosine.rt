@@ -8,11 +8,9 @@ pub fn fcos(a: f64) -> f64
 {
     let t = a * a;
     let mut h = 1.0;
-    let mut k: u32 = 13;
-    while 0 < k {
+    for k in (1..=13u32).rev() {
         let p = (2 * k - 1) * (2 * k);
         h = 1.0 - t / (p as f64) * h;
-        k = k - 1;
     }
     h
 }

@@ -1,73 +1,24 @@
--- The comparisons by which the code tells an infinite double, case by case of a double; and the first node with an infinite value: each node before it is passed,
--- and counting from one more gives one more. Assumes nothing.
-use mathlib.Core.Bool.{Bool, true, false, true≢false}
-use mathlib.Core.List.{List, [], ◌∷◌}
-use mathlib.Core.Path.{◌≡◌, refl, sym, ap, ◌∙◌, subst}
+-- The first node with an infinite value: each node before it is passed, and counting from one more gives one more. It is the first place of an infinite value
+-- in the array of them. Assumes nothing.
+use mathlib.Core.Bool.{Bool, true, false, not, cond}
+use mathlib.Core.List.{List, [], ◌∷◌, map}
+use mathlib.Core.Path.{◌≡◌, refl, sym, ap, ap₂, ◌∙◌, subst}
 use Prim.Native.Nat.{ℕ, zero, suc, ◌+◌, ◌<◌, ◌≤◌}
 use native.Mathlib.Nat.{suc-add, not-suc-le-zero, le_of_suc-le-suc}
-use native.Mathlib.Numerals.{add-one}
 use native.Mathlib.Omega.{arith}
-use lib.Ieee.{Float, nan, inf, fin, binary64, of_bits, neg, div, lt, eq}
-use lib.ListN.{length, drop, drop_of_length-le}
-use lib.Seq.{drop-cons}
+use lib.Dec.{ltb}
+use lib.Ieee.{Float}
+use lib.ListN.{length, take, length-map}
+use Rattle.std.proofs.lemmas.List.{same_lists, get_or-map}
+use Rattle.std.specs.List.{position, position_or_len}
+use Rattle.std.specs.Prelude.{Some, None}
+use Rattle.cd.specs.Diagrams.{limit}
+use Rattle.cox.specs.Squares.{flat}
+use Rattle.cox.proofs.Flats.{length_flat, flat_at, flat_front}
 use Rattle.float.specs.Pick.{pick}
 use Rattle.cd.specs.declared.Node.{Node}
 use Rattle.cd.specs.declared.Node.TheVariants.{Unringed}
 use Rattle.generator.specs.Generator.{value, values, is_infinite, first_infinite}
-
--- ---- the code's infinities
-
--- 0.0 and 1.0, as the code has them
-abbrev pub nought : Float
-nought = of_bits binary64 0
-
-abbrev pub unit : Float
-unit = of_bits binary64 0x3ff0_0000_0000_0000
-
-infinity : div binary64 unit nought ≡ inf false
-unfolding of_bits div
-infinity = refl
-
-minus_infinity : div binary64 (neg unit) nought ≡ inf true
-unfolding of_bits div neg
-minus_infinity = refl
-
-above_zero : (v : Float) → lt nought v ≡ true → eq v (inf false) ≡ is_infinite v
-unfolding lt eq is_infinite of_bits
-above_zero nan h = refl
-above_zero (inf true) h = absurd (true≢false (sym h))
-above_zero (inf false) h = refl
-above_zero (fin s m e) h = refl
-
-not_above_zero : (v : Float) → lt nought v ≡ false → eq v (inf true) ≡ is_infinite v
-unfolding lt eq is_infinite of_bits
-not_above_zero nan h = refl
-not_above_zero (inf true) h = refl
-not_above_zero (inf false) h = absurd (true≢false h)
-not_above_zero (fin s m e) h = refl
-
-pub infinite_above : (v : Float) → lt nought v ≡ true → eq v (div binary64 unit nought) ≡ is_infinite v
-infinite_above v h = ap (eq v) infinity ∙ above_zero v h
-
-pub infinite_not_above : (v : Float) → lt nought v ≡ false → eq v (div binary64 (neg unit) nought) ≡ is_infinite v
-infinite_not_above v h = ap (eq v) minus_infinity ∙ not_above_zero v h
-
--- ---- the first of the nodes from i on, at i
-
-module _ (ns : List Node) (i : ℕ) where
-  opened : i < length ns → first_infinite (drop i ns) i ≡ pick (is_infinite (values ns i)) i (first_infinite (drop (i + 1) ns) (i + 1))
-  unfolding first_infinite values
-  opened h = rw (drop-cons ns i Unringed h, add-one)
-
-  pub first_here : i < length ns → is_infinite (values ns i) ≡ true → first_infinite (drop i ns) i ≡ i
-  first_here h e = opened h ∙ rw e
-
-  pub first_later : i < length ns → is_infinite (values ns i) ≡ false → first_infinite (drop i ns) i ≡ first_infinite (drop (i + 1) ns) (i + 1)
-  first_later h e = opened h ∙ rw e
-
-  pub first_none : length ns ≤ i → first_infinite (drop i ns) i ≡ i
-  unfolding first_infinite
-  first_none h = rw (drop_of_length-le ns h)
 
 -- ---- what the first is
 
@@ -122,3 +73,42 @@ unfolding first_infinite
 first_infinite_below [] = record { bounded = omega arith; infinite = λ h. absurd (not-suc-le-zero h); before = λ i h. absurd (not-suc-le-zero h); none = λ z i h. absurd (not-suc-le-zero h) }
 first_infinite_below (n ∷ ns) =
     subst (λ k. IsFirst (n ∷ ns) (pick (is_infinite (value n)) 0 k)) (sym (counted ns 0)) (first n ns (is_infinite (value n)) refl (first_infinite_below ns))
+
+-- ---- the first among the values in their array
+
+first_by : (t : Bool) (p k : ℕ) → p ≡ k → cond (not t) (1 + p) 0 ≡ pick t 0 (suc k)
+first_by true p k e = refl
+first_by false p k e = omega arith
+
+first_value : (ns : List Node) → position_or_len is_infinite (map value ns) ≡ first_infinite ns 0
+unfolding first_infinite
+first_value [] = refl
+first_value (n ∷ ns) = first_by (is_infinite (value n)) _ _ (first_value ns) ∙ ap (pick (is_infinite (value n)) 0) (sym (counted ns 0))
+
+value_list : (ns : List Node) → flat (length ns) (values ns) ≡ map value ns
+unfolding values
+value_list ns =
+    same_lists _ _ (length_flat (length ns) (values ns) ∙ sym (length-map ns value)) (λ i d h.
+    let inside : i < length ns = omega (arith, length_flat (length ns) (values ns)) in
+    flat_at (length ns) (values ns) d i inside ∙ sym (get_or-map value ns i Unringed d inside))
+
+picked : {A : Type 0} (t : Bool) (x y : A) → cond t x y ≡ pick t x y
+picked true x y = refl
+picked false x y = refl
+
+-- the place that the code tells is the definition's, where that is a node's
+pub first_found : (ns : List Node) (n : ℕ) (vs : List Float) → n ≡ length ns → n ≤ limit → vs ≡ flat limit (values ns)
+    → position is_infinite (take n vs) ≡ pick (ltb (first_infinite ns 0) n) (Some (first_infinite ns 0)) None
+first_found ns n vs e h w =
+    ap (λ xs. position is_infinite (take n xs)) w
+    ∙ ap (position is_infinite) (flat_front limit (values ns) n h ∙ ap (λ k. flat k (values ns)) e ∙ value_list ns)
+    ∙ ap₂ (λ k l. cond (ltb k l) (Some k) None) (first_value ns) (length-map ns value ∙ sym e)
+    ∙ picked (ltb (first_infinite ns 0) n) (Some (first_infinite ns 0)) None
+
+pub found_node : (t : Bool) (k i : ℕ) → pick t (Some k) None ≡ Some i → (t ≡ true) × (k ≡ i)
+found_node true k i e = (refl, cc)
+found_node false k i e = cc
+
+pub found_none : (t : Bool) (k : ℕ) → pick t (Some k) None ≡ None → t ≡ false
+found_none true k e = cc
+found_none false k e = refl

@@ -1,8 +1,8 @@
--- A row of coordinates in an array: filled from the front; one coordinate more has lost; one is divided, and those before it have lost it. A store changes one
+-- A row of coordinates in an array: one coordinate more has lost; one is divided, and those before it have lost it. A store changes one
 -- entry of the row, and rows with the same entries stand in the same array. Assumes nothing.
-use mathlib.Core.List.{List, []}
+use mathlib.Core.List.{List}
 use mathlib.Core.Logic.{◌≢◌}
-use mathlib.Core.Path.{◌≡◌, refl, sym, ap, ◌∙◌}
+use mathlib.Core.Path.{◌≡◌, refl, sym, ◌∙◌}
 use Prim.Native.Nat.{ℕ, zero, suc, ◌+◌, ◌-◌, ◌<◌, ◌≤◌}
 use native.Mathlib.Decide.{dec_lt}
 use native.Mathlib.Nat.{le_refl, not-suc-le-zero}
@@ -11,34 +11,15 @@ use native.Mathlib.Omega.{arith}
 use borrow.Author.Tests.{lt-ltb, le-ltb, eq-eqb, ne_eqb}
 use lib.Dec.{eqb}
 use lib.Ieee.{Float}
-use lib.ListN.{length, get_or, take, set}
-use lib.Seq.{take_all, take-suc-set}
+use lib.ListN.{get_or, set}
 use Rattle.float.specs.Numbers.{◌-ᶠ◌, ◌*ᶠ◌, ◌/ᶠ◌}
 use Rattle.float.specs.Pick.{pick}
 use Rattle.cox.specs.Squares.{Square, two, flat}
-use Rattle.cox.proofs.Flats.{flat_at, flat_set, flat_same}
+use Rattle.cox.proofs.Flats.{flat_set, flat_same}
+use Rattle.cox.proofs.Sums.{row_read}
 use Rattle.generator.specs.Generator.{solved, solve}
 use Rattle.generator.specs.Shown.{lost}
 use Rattle.generator.specs.TrueDistances.{rest, restᶠ, placed, place, placeᶠ}
-
--- an entry of a row, read from its array
-pub row_read : {A : Type 0} (N : ℕ) (f : ℕ → A) (l : List A) (d : A) → l ≡ flat N f → (i : ℕ) → i < N → get_or l i d ≡ f i
-row_read N f l d e i h = rw e (flat_at N f d i h)
-
--- ---- a row that is filled from the front
-
-module _ {A : Type 0} (f : ℕ → A) where
-  pub filled_none : [] ≡ flat 0 f
-  unfolding flat
-  filled_none = refl
-
-module _ {A : Type 0} (f : ℕ → A) (out : List A) where
-  pub filled_more : (i : ℕ) (v : A) → i < length out → take i out ≡ flat i f → v ≡ f i → take (i + 1) (set out i v) ≡ flat (i + 1) f
-  unfolding flat
-  filled_more i v h e w = rw (add-one, take-suc-set out i v h, e, w)
-
-  pub filled_all : (N i : ℕ) → length out ≡ N → i ≡ N → take i out ≡ flat i f → out ≡ flat N f
-  filled_all N i h w e = sym (take_all i out (omega arith)) ∙ e ∙ ap (λ k. flat k f) w
 
 -- ---- the coordinates that have lost
 

@@ -1,13 +1,13 @@
 // `Cd::generator`: the point that the mirrors and the nodes' values give, as the Rust computes it; and over walls the point at half a node's value from its wall.
 #![tactic(auto)]
 
-ghost use Rattle.std.specs.Prelude.{List, ◌≡◌, ℕ, ◌<◌, ◌≤◌, length, Float};
+ghost use Rattle.std.specs.Prelude.{List, ◌≡◌, ℕ, ◌<◌, ◌≤◌, position, take, Float};
 ghost use Rattle.cd.specs.Diagrams.{Stored, limit, cd_of};
 ghost use Rattle.cd.specs.declared.Node.{Node as ANode};
-ghost use Rattle.generator.specs.Generator.{value as the_value, values as the_values, solve as the_solve, is_infinite, first_infinite};
+ghost use Rattle.generator.specs.Generator.{value as the_value, values as the_values, solve as the_solve, is_infinite};
 ghost use Rattle.generator.specs.Shown.{generator_of, lost};
 ghost use Rattle.generator.specs.TrueDistances.{restᶠ, placeᶠ, coordinates as the_coordinates};
-ghost use Rattle.cox.specs.Squares.{Square, flat, flat_square, dot as the_dot};
+ghost use Rattle.cox.specs.Squares.{Square, flat, flat_square};
 
 use cd::{Cd, LIMIT, Node, SQUARE};
 
@@ -19,64 +19,44 @@ pub struct Generator {
     pub radius: f64,
 }
 
+#[tactic(auto, using(cox::proofs::Sums::zero_literal), unfolding(crate::specs::Generator::value))]
 fn value(n: Node) -> f64
     ensures { result ≡ the_value n }
 {
     match n {
         Node::Unringed => 0.0,
-        Node::Ringed(v) => v,
-        Node::Snub(v) => v,
+        Node::Ringed(v) | Node::Snub(v) => v,
     }
 }
 
 pub fn values(cd: Cd) -> [f64; LIMIT]
     ensures { (ns : List ANode) (es : List Stored) → cd ≡ cd_of ns es → result ≡ flat limit (the_values ns) }
 {
-    let mut out = [0.0; LIMIT];
-    for i in 0..LIMIT {
-        let place = cd.nodes[i];
-        let node = place.node;
-        out[i] = value(node);
-    }
-    out
+    cd.nodes.map(|place| value(place.node))
 }
 
 fn is_infinite(v: f64) -> bool
     ensures { result ≡ is_infinite v }
 {
-    if v > 0.0 {
-        return v == 1.0 / 0.0;
-    }
-    v == -1.0 / 0.0
+    v.is_infinite()
 }
 
-// The first of the n nodes whose value is infinite, or n.
-pub fn first_infinite(values: [f64; LIMIT], n: usize) -> usize
+// The first of the n nodes whose value is infinite.
+pub fn first_infinite(values: [f64; LIMIT], n: usize) -> Option<usize>
     requires { n ≤ limit }
-    ensures { (ns : List ANode) → n ≡ length ns → values ≡ flat limit (the_values ns) → result ≡ first_infinite ns 0 }
+    ensures { result ≡ position is_infinite (take n values) }
 {
-    let mut i = 0;
-    while i < n {
-        if is_infinite(values[i]) {
-            return i;
-        }
-        i += 1;
-    }
-    n
+    values[..n].iter().position(|v| is_infinite(*v))
 }
 
 // Each b(r), r < i, loses v × row r of column i.
-fn lose(m: &[f64; SQUARE], b: [f64; LIMIT], i: usize, v: f64) -> [f64; LIMIT]
+fn lose(m: &[f64; SQUARE], b: &mut [f64; LIMIT], i: usize, v: f64)
     requires { i < limit }
-    ensures { (f : Square) (c : ℕ → Float) → m.now ≡ flat_square limit f → b ≡ flat limit c → result ≡ flat limit (lost f i v c i) }
+    ensures { (f : Square) (c : ℕ → Float) → m.now ≡ flat_square limit f → b.old ≡ flat limit c → b.new ≡ flat limit (lost f i v c i) }
 {
-    let mut out = b;
-    let mut r = 0;
-    while r < i {
-        out[r] = out[r] - v * m[LIMIT * i + r];
-        r += 1;
+    for r in 0..i {
+        b[r] -= v * m[LIMIT * i + r];
     }
-    out
 }
 
 // The triangular system, from the last row to the first.
@@ -85,14 +65,10 @@ fn solve(m: &[f64; SQUARE], values: [f64; LIMIT], n: usize) -> [f64; LIMIT]
     ensures { (f : Square) (c : ℕ → Float) → m.now ≡ flat_square limit f → values ≡ flat limit c → result ≡ flat limit (the_solve f n c) }
 {
     let mut b = values;
-    let mut left = n;
-    while 0 < left {
-        let i = left - 1;
+    for i in (0..n).rev() {
         let v = b[i] / m[LIMIT * i + i];
         b[i] = v;
-        let next = lose(m, b, i, v);
-        b = next;
-        left -= 1;
+        lose(m, &mut b, i, v);
     }
     b
 }
@@ -103,10 +79,8 @@ fn rest(m: &[f64; SQUARE], b: &[f64; LIMIT], i: usize) -> f64
     ensures { (f : Square) (c : ℕ → Float) → m.now ≡ flat_square limit f → b.now ≡ flat limit c → result ≡ restᶠ f c i i }
 {
     let mut rest = b[i] / 2.0;
-    let mut k = 0;
-    while k < i {
-        rest = rest - b[k] * m[LIMIT * i + k];
-        k += 1;
+    for k in 0..i {
+        rest -= b[k] * m[LIMIT * i + k];
     }
     rest
 }
@@ -117,15 +91,14 @@ fn place(m: &[f64; SQUARE], values: [f64; LIMIT], n: usize) -> [f64; LIMIT]
     ensures { (f : Square) (c : ℕ → Float) → m.now ≡ flat_square limit f → values ≡ flat limit c → result ≡ flat limit (placeᶠ f n c) }
 {
     let mut b = values;
-    let mut i = 0;
-    while i < n {
+    for i in 0..n {
         b[i] = rest(m, &b, i) / m[LIMIT * i + i];
-        i += 1;
     }
     b
 }
 
 // The coordinates over the Rust's mirrors, or over walls.
+#[tactic(auto, unfolding(crate::specs::TrueDistances::coordinates))]
 fn coordinates(walls: bool, m: &[f64; SQUARE], values: [f64; LIMIT], n: usize) -> [f64; LIMIT]
     requires { n ≤ limit }
     ensures { (f : Square) (c : ℕ → Float) → m.now ≡ flat_square limit f → values ≡ flat limit c → result ≡ flat limit (the_coordinates walls f n c) }
@@ -137,28 +110,15 @@ fn coordinates(walls: bool, m: &[f64; SQUARE], values: [f64; LIMIT], n: usize) -
     }
 }
 
-// The sum of the squares of the first n, by rising index from 0.0.
-fn squares(b: [f64; LIMIT], n: usize) -> f64
-    requires { n ≤ limit }
-    ensures { (c : ℕ → Float) → b ≡ flat limit c → result ≡ the_dot c c n }
-{
-    let mut s = 0.0;
-    let mut r = 0;
-    while r < n {
-        s = s + b[r] * b[r];
-        r += 1;
-    }
-    s
-}
-
 pub fn of(walls: bool, m: &[f64; SQUARE], values: [f64; LIMIT], n: usize) -> Generator
     requires { n ≤ limit }
     ensures { (f : Square) (c : ℕ → Float) → m.now ≡ flat_square limit f → values ≡ flat limit c → result ≡ generator_of n (the_coordinates walls f n c) }
 {
-    let b = coordinates(walls, m, values, n);
+    let at = coordinates(walls, m, values, n);
+    let squares = cox::dot(&at[..n], &at[..n]);
     Generator {
-        at: b,
+        at,
         count: n,
-        radius: float::root::fsqrt(squares(b, n)),
+        radius: float::root::fsqrt(squares),
     }
 }

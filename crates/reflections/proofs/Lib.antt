@@ -1,3 +1,2 @@
--- The laws of the columns of a reflection, and of matrices made one by one.
-pub mod Columns
+-- The laws of matrices made one by one.
 pub mod Matrices

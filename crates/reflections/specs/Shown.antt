@@ -1,17 +1,11 @@
 -- How the code holds reflections: each goes on past the count as the unit matrix, and past the last mirror there are zeros.
-use Rattle.std.specs.Prelude.{ℕ, ltb, Float}
-use Rattle.float.specs.Numbers.{◌-ᶠ◌, ◌*ᶠ◌}
+use Rattle.std.specs.Prelude.{ℕ, ltb}
 use Rattle.float.specs.Pick.{pick}
 use Rattle.cd.specs.Diagrams.{limit}
 use Rattle.cox.specs.Squares.{Square, zeros, flat, flat_square}
-use Rattle.reflections.specs.Reflections.{unit, reflection}
+use Rattle.reflections.specs.Reflections.{reflection}
 use Rattle.reflections.specs.declared.Reflections as declared
 
 unfoldable pub reflections_of : ℕ → Square → declared.Reflections
 unfolding flat flat_square reflection
 reflections_of n m = record { of = flat limit (λ i. record { at = flat_square limit (pick (ltb i n) (reflection (m i) n) zeros) }); count = n }
-
--- column c of the reflection in n, with q for 2×(e·n) ÷ (n·n)
-unfoldable pub column : (ℕ → Float) → ℕ → Float → ℕ → Float
-unfolding unit
-column n c q r = unit c r -ᶠ n r *ᶠ q

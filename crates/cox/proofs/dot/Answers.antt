@@ -1,53 +1,29 @@
 -- `cox::dot` meets its contract; Invariants.antt has the argument.
-use mathlib.Core.Path.{ap, ◌∙◌}
+use mathlib.Core.Path.{◌≡◌, sym, ap, ◌∙◌}
+use Prim.Native.Nat.{◌<◌}
 use native.Mathlib.Omega.{arith}
+use borrow.Author.Rules.{rules}
 use lib.Ieee.{nan}
-use Rattle.cd.specs.Diagrams.{limit}
+use lib.ListN.{length, length-append}
+use Rattle.std.proofs.lemmas.Slice.Zip.{zip_turn, zip_end}
 use Rattle.cox.specs.Squares.{dot}
-use Rattle.cox.proofs.Sums.{zero_literal, dot_none, dot_more, entry_read}
+use Rattle.cox.proofs.Flats.{length_flat}
+use Rattle.cox.proofs.Sums.{zero_literal, dot_none, dot_more, row_read}
 use Rattle.cox.proofs.dot.Goals as goal
 
-pub loop-r-init : goal.loop-r-init
-loop-r-init c = (omega arith, λ f e. zero_literal ∙ dot_none (f c.args.i) (f c.args.j))
+pub loop-x-init : goal.loop-x-init
+loop-x-init c f g k p q = zero_literal ∙ dot_none f g
 
-pub overflow_mul-s : goal.overflow_mul-s
-overflow_mul-s c = omega arith
-
-pub overflow_add-s : goal.overflow_add-s
-overflow_add-s c = omega arith
-
-pub offset_bounds-m-i : goal.offset_bounds-m-i
-offset_bounds-m-i c = omega arith
-
-pub bounds-m-i : goal.bounds-m-i
-bounds-m-i c = omega arith
-
-pub overflow_mul-s-in-loop-r : goal.overflow_mul-s-in-loop-r
-overflow_mul-s-in-loop-r c = omega arith
-
-pub overflow_add-s-in-loop-r : goal.overflow_add-s-in-loop-r
-overflow_add-s-in-loop-r c = omega arith
-
-pub offset_bounds-m-j : goal.offset_bounds-m-j
-offset_bounds-m-j c = omega arith
-
-pub bounds-m-j : goal.bounds-m-j
-bounds-m-j c = omega arith
-
-pub overflow_add-r : goal.overflow_add-r
-overflow_add-r c = omega arith
-
-pub loop-r-smaller : goal.loop-r-smaller
-loop-r-smaller c = omega arith
-
-pub loop-r-preserved : goal.loop-r-preserved
-loop-r-preserved c = (
-  omega arith,
-  λ f e.
-      dot_more (f c.args.i) (f c.args.j) c.loop-r.r _ _ _ (c.loop-r.invariant.1 f e)
-      (entry_read limit f _ nan e c.args.i c.loop-r.r c.requires.0 (omega arith))
-      (entry_read limit f _ nan e c.args.j c.loop-r.r c.requires.1 (omega arith)),
-)
+pub loop-x-preserved : goal.loop-x-preserved
+loop-x-preserved c f g k p q =
+    let n = length c.loop-x.yielded in
+    let (here, _, x, y) = zip_turn c.args.xs.now c.args.ys.now c.loop-x.yielded c.into_iter-x-iterator.result c.loop-x.x-iterator c.next.new.self _ (search rules) (search rules) c.loop-x.yielded_by _ c.in-Some.is c.next.ensures.steps in
+    let inside : n < k = omega (arith, ap length p, length_flat k f) in
+    dot_more f g n _ _ _ (c.loop-x.invariant f g k p q) (x nan ∙ row_read k f _ nan p n inside) (y nan ∙ row_read k g _ nan q n inside)
+    ∙ ap (dot f g) (sym (length-append c.loop-x.yielded _))
 
 pub returns : goal.returns
-returns c f e = c.loop-r.invariant.1 f e ∙ ap (dot (f c.args.i) (f c.args.j)) (omega arith)
+returns c f g k p q =
+    let t = zip_end c.args.xs.now c.args.ys.now c.loop-x.yielded c.into_iter-x-iterator.result c.loop-x.x-iterator c.next.new.self _ (search rules) (search rules) c.loop-x.yielded_by c.in-None.is c.next.ensures.steps in
+    let all : length c.loop-x.yielded ≡ k = omega (arith, ap length p, ap length q, length_flat k f, length_flat k g) in
+    c.loop-x.invariant f g k p q ∙ ap (dot f g) all

@@ -1,12 +1,10 @@
--- `cox::dot` meets its contract. The invariant: s is the sum of the first r products.
+-- `cox::dot` meets its contract. The invariant: the sum is of as many products as there were turns.
 use mathlib.Core.Path.{◌≡◌}
-use Prim.Native.Nat.{◌-◌, ◌≤◌}
-use Rattle.cd.specs.Diagrams.{limit}
-use Rattle.cox.specs.Squares.{Square, flat_square, dot}
+use Prim.Native.Nat.{ℕ}
+use lib.Ieee.{Float}
+use lib.ListN.{length}
+use Rattle.cox.specs.Squares.{flat, dot}
 use Rattle.cox.proofs.dot.Given as goal
 
-abbrev pub invariant-loop-r : goal.invariant-loop-r
-invariant-loop-r l = (l.r ≤ l.k) × ((f : Square) → l.m ≡ flat_square limit f → l.s ≡ dot (f l.i) (f l.j) l.r)
-
-abbrev pub decreases-loop-r : goal.decreases-loop-r
-decreases-loop-r l = l.k - l.r
+abbrev pub invariant-loop-x : goal.invariant-loop-x
+invariant-loop-x l = (f g : ℕ → Float) (k : ℕ) → l.xs ≡ flat k f → l.ys ≡ flat k g → l.sum ≡ dot f g (length l.yielded)

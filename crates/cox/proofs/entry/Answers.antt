@@ -8,6 +8,6 @@ pub returns-then-i-j : goal.returns-then-i-j
 unfolding entries
 returns-then-i-j c = simp (eq-eqb _ _ c.if-i-j.true) one_literal
 
-pub returns : goal.returns
+pub returns-else-i-j : goal.returns-else-i-j
 unfolding entries
-returns c = rw (ne_eqb _ _ c.if-i-j.false, ← c.pair_place.ensures.0)
+returns-else-i-j c = rw (ne_eqb _ _ c.if-i-j.false, ← c.pair_place.ensures.0)

@@ -10,6 +10,6 @@ pub returns-then-p-eq0 : goal.returns-then-p-eq0
 unfolding pair_value
 returns-then-p-eq0 c = simp (eq-eqb _ _ c.if-p-eq0.true) two_literal
 
-pub returns : goal.returns
+pub returns-else-p-eq0 : goal.returns-else-p-eq0
 unfolding pair_value quotient whole
-returns c = simp (ne_eqb _ _ c.if-p-eq0.false)
+returns-else-p-eq0 c = simp (ne_eqb _ _ c.if-p-eq0.false)

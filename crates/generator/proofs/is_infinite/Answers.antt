@@ -1,9 +1,15 @@
--- `generator::is_infinite` meets its contract: a double above zero is infinite where it is the infinity above zero, another where it is the one below.
-use Rattle.generator.proofs.Infinite.{infinite_above, infinite_not_above}
+-- `generator::is_infinite` meets its contract: the kit's test is the definition's, case by case.
+use mathlib.Core.Path.{◌≡◌, refl, ◌∙◌}
+use lib.Ieee.{Float, nan, inf, fin}
+use Rattle.std.specs.Float.{float_is_infinite}
+use Rattle.generator.specs.Generator.{is_infinite}
 use Rattle.generator.proofs.is_infinite.Goals as goal
 
-pub returns-then-v : goal.returns-then-v
-returns-then-v c = infinite_above c.args.v c.if-v.true
+same : (v : Float) → float_is_infinite v ≡ is_infinite v
+unfolding float_is_infinite is_infinite
+same nan = refl
+same (inf s) = refl
+same (fin s m e) = refl
 
 pub returns : goal.returns
-returns c = infinite_not_above c.args.v c.if-v.false
+returns c = c.is_infinite.ensures.value ∙ same c.args.v

@@ -1,6 +1,6 @@
--- `generator::lose` meets its contract. The invariant: the first r coordinates have lost; the measure is what is left of i.
+-- `generator::lose` meets its contract. The invariant: the first r coordinates have lost.
 use mathlib.Core.Path.{◌≡◌}
-use Prim.Native.Nat.{ℕ, ◌-◌, ◌≤◌}
+use Prim.Native.Nat.{ℕ}
 use lib.Ieee.{Float}
 use Rattle.cd.specs.Diagrams.{limit}
 use Rattle.cox.specs.Squares.{Square, flat, flat_square}
@@ -8,7 +8,4 @@ use Rattle.generator.specs.Shown.{lost}
 use Rattle.generator.proofs.lose.Given as goal
 
 abbrev pub invariant-loop-r : goal.invariant-loop-r
-invariant-loop-r l = (l.r ≤ l.i) × ((f : Square) (c : ℕ → Float) → l.m ≡ flat_square limit f → l.initial.out ≡ flat limit c → l.out ≡ flat limit (lost f l.i l.v c l.r))
-
-abbrev pub decreases-loop-r : goal.decreases-loop-r
-decreases-loop-r l = l.i - l.r
+invariant-loop-r l = (f : Square) (c : ℕ → Float) → l.m ≡ flat_square limit f → l.initial.b ≡ flat limit c → l.b ≡ flat limit (lost f l.i l.v c l.r)

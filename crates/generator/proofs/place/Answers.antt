@@ -10,17 +10,10 @@ use Rattle.generator.proofs.Rows.{place_none, place_more}
 use Rattle.generator.proofs.place.Goals as goal
 
 pub loop-i-init : goal.loop-i-init
-loop-i-init c = (omega arith, λ f b e w. w ∙ ap (flat limit) (place_none f b))
+loop-i-init c f b e w = w ∙ ap (flat limit) (place_none f b)
 
 pub loop-i-preserved : goal.loop-i-preserved
-loop-i-preserved c =
-    let i = c.loop-i.i in (
-      omega arith,
-      λ f b e w.
-          let held = c.loop-i.invariant.1 f b e w in
-          place_more f i b _ _ limit _ (omega arith) held (c.rest.ensures f (placeᶠ f i b) e held)
-          (entry_read limit f _ nan e i i (omega arith) (omega arith)),
-    )
-
-pub returns : goal.returns
-returns c f b e w = c.loop-i.invariant.1 f b e w ∙ ap (λ k. flat limit (placeᶠ f k b)) (omega arith)
+loop-i-preserved c f b e w =
+    let i = c.loop-i.i in
+    let held = c.loop-i.invariant f b e w in
+    place_more f i b _ _ limit _ (omega arith) held (c.rest.ensures f (placeᶠ f i b) e held) (entry_read limit f _ nan e i i (omega arith) (omega arith))

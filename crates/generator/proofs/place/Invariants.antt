@@ -1,6 +1,6 @@
--- `generator::place` meets its contract. The invariant: the first i coordinates are placed; the measure is what is left of n.
+-- `generator::place` meets its contract. The invariant: the first i coordinates are placed.
 use mathlib.Core.Path.{◌≡◌}
-use Prim.Native.Nat.{ℕ, ◌-◌, ◌≤◌}
+use Prim.Native.Nat.{ℕ}
 use lib.Ieee.{Float}
 use Rattle.cd.specs.Diagrams.{limit}
 use Rattle.cox.specs.Squares.{Square, flat, flat_square}
@@ -8,7 +8,4 @@ use Rattle.generator.specs.TrueDistances.{placeᶠ}
 use Rattle.generator.proofs.place.Given as goal
 
 abbrev pub invariant-loop-i : goal.invariant-loop-i
-invariant-loop-i l = (l.i ≤ l.n) × ((f : Square) (c : ℕ → Float) → l.m ≡ flat_square limit f → l.initial.b ≡ flat limit c → l.b ≡ flat limit (placeᶠ f l.i c))
-
-abbrev pub decreases-loop-i : goal.decreases-loop-i
-decreases-loop-i l = l.n - l.i
+invariant-loop-i l = (f : Square) (c : ℕ → Float) → l.m ≡ flat_square limit f → l.initial.b ≡ flat limit c → l.b ≡ flat limit (placeᶠ f l.i c)

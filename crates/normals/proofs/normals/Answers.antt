@@ -12,14 +12,14 @@ returns-then-s c e p =
     let l = c.loop-i in
     let t = l.invariant e p in
     let made = c.rows.ensures e t.square p t.held in
-    refusal_shown _ l.i (column_refused c.args.walls limit e c.args.n l.i l.m t c.dot-s.result (omega arith) (c.dot-s.ensures (filled t) made) c.if-s.true)
+    refusal_shown _ l.i (column_refused c.args.walls limit e c.args.n l.i l.m t c.dot-s.result (omega arith) (c.dot-s.ensures (filled t l.i) (filled t l.i) c.args.n (c.column-column.ensures (filled t) made) (c.column-column.ensures (filled t) made)) c.if-s.true)
 
 pub loop-i-preserved : goal.loop-i-preserved
 loop-i-preserved c e p =
     let l = c.loop-i in
     let t = l.invariant e p in
     let made = c.rows.ensures e t.square p t.held in
-    column_made c.args.walls limit e c.args.n l.i l.m t c.dot-s.result (omega arith) (c.dot-s.ensures (filled t) made) _ c.fsqrt.result (omega arith) made c.if-s.false
+    column_made c.args.walls limit e c.args.n l.i l.m t c.dot-s.result (omega arith) (c.dot-s.ensures (filled t l.i) (filled t l.i) c.args.n (c.column-column.ensures (filled t) made) (c.column-column.ensures (filled t) made)) _ c.fsqrt.result (omega arith) made c.if-s.false
     c.fsqrt.ensures
 
 pub returns : goal.returns

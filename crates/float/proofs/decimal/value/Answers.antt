@@ -1,20 +1,13 @@
 -- `float::decimal::value` meets its contract.
 use mathlib.Core.Path.{◌≡◌}
 use mathlib.Core.Bool.{true, false}
-use Prim.Native.Nat.{◌^◌}
-use lib.Dec.{le→leb}
 use lib.IntN.{pos}
 use lib.Signed.{le_z}
-use lib.Ieee.{in_float}
 use mir.Facts.{to_z-of_z}
 use Rattle.float.specs.Numbers.{whole}
-use Rattle.float.proofs.Powers.{size, up_size, up_value, minus_fits, down_size, down_cast, down_value}
+use Rattle.float.proofs.Powers.{size, up_value, minus_fits, down_size, down_cast, down_value}
 use Rattle.float.proofs.decimal.value.Goals as goal
 use Rattle.float.proofs.decimal.value.Goals.{Else-p-ge0, Then-p-ge0}
-
-pub int_to_float-d : goal.int_to_float-d
-unfolding in_float
-int_to_float-d c = le→leb c.args.w (2 ^ 53) c.requires.0
 
 -- which way p counts
 up : (c : Then-p-ge0) → le_z (pos 0) c.args.p ≡ true
@@ -22,9 +15,6 @@ up c = rw (to_z-of_z c.ranges.p) at c.if-p-ge0.true
 
 down : (c : Else-p-ge0) → le_z (pos 0) c.args.p ≡ false
 down c = rw (to_z-of_z c.ranges.p) at c.if-p-ge0.false
-
-pub overflow_cast-p : goal.overflow_cast-p
-overflow_cast-p c = rw (to_z-of_z c.ranges.p) (up_size _ c.requires.1 (up c))
 
 pub ten-requires : goal.ten-requires
 ten-requires c = rw (to_z-of_z c.ranges.p) (size _ c.requires.1)
