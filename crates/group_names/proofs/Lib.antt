@@ -1,5 +1,5 @@
 -- The laws of names.
-mod Orders
+pub mod Orders
 pub mod Matching
 pub mod Entries
 mod Shapes

@@ -9,11 +9,13 @@ use native.Mathlib.Nat.{not-suc-le-zero, le_refl}
 use native.Mathlib.Omega.{arith}
 use lib.ListN.{length, get_or, length-append, get_or-append}
 use lib.Seq.{get_or-append_seam}
+use Rattle.std.specs.Prelude.{Result, Ok, Err}
 use Rattle.cd.specs.Diagrams.{Stored}
+use Rattle.cd.specs.declared.CdError.{CdError}
 use Rattle.cd.specs.declared.CdError.TheVariants.{NoName}
 use Rattle.tables.specs.Diagrams.{joint}
 use Rattle.group_names.specs.Named as naming
-use Rattle.group_names.specs.Named.{Named, Nameless, Lowest, Lists, none, passed, listed, Names, blank, group, listing, refusal}
+use Rattle.group_names.specs.Named.{Named, Nameless, Lowest, Lists, none, passed, listed, Names, blank, group, listing}
 use Rattle.group_names.specs.Names.{order}
 use Rattle.group_names.specs.declared.Group.{Group}
 use Rattle.group_names.specs.declared.Groups.{Groups}
@@ -112,8 +114,8 @@ module _ (n : ℕ) (es : List Stored) (positive : (u v : ℕ) → u < n → v < 
       not (get_or gs i blank).name (subst (λ v. Named n es v (get_or gs i blank).name) e (entry_at w i l).named)
 
   -- WHAT IS TOLD OF A DIAGRAM IS ONE THING
-  pub names_once : {r t : Groups} → Names n es r → Names n es t → r ≡ t
-  names_once (naming.named w e) (naming.named v q) = e ∙ ap listing (lists_once (le_refl n) w v) ∙ sym q
+  pub names_once : {r t : Result Groups CdError} → Names n es r → Names n es t → r ≡ t
+  names_once (naming.named w e) (naming.named v q) = e ∙ ap (λ gs. Ok (listing gs)) (lists_once (le_refl n) w v) ∙ sym q
   names_once (naming.named w e) (naming.nameless h v low not q) = absurd (listed_named w h low not)
   names_once (naming.nameless h w low not e) (naming.named v q) = absurd (listed_named v h low not)
   names_once (naming.nameless {c} h w low not e) (naming.nameless {c = d} k v low' not' q) =
@@ -122,6 +124,6 @@ module _ (n : ℕ) (es : List Stored) (positive : (u v : ℕ) → u < n → v < 
         | no l ↦
             elim (dec_lt d c) [
               | yes m ↦ absurd (listed_named w m low' not')
-              | no m ↦ (let s : c ≡ d = omega arith in e ∙ ap (λ z. refusal (NoName z)) s ∙ sym q)
+              | no m ↦ (let s : c ≡ d = omega arith in e ∙ ap (λ z. Err (NoName z)) s ∙ sym q)
             ]
       ]

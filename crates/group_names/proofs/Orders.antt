@@ -1,5 +1,5 @@
 -- The products that orders are: one factor more at a time, and up to 16 factors none is greater than that of 16. Assumes nothing.
-use mathlib.Core.Path.{◌≡◌, sym, ap, ◌∙◌, subst}
+use mathlib.Core.Path.{◌≡◌, refl, sym, ap, ◌∙◌, subst}
 use Prim.Native.Nat.{ℕ, zero, suc, ◌+◌, ◌-◌, ◌*◌, ◌/◌, ◌^◌, ◌≤◌, ◌<◌}
 use native.Mathlib.Decide.{ℕ_discrete}
 use native.Mathlib.Nat.{pow-zero, pow-suc, mul-le-mul, le_refl, le_trans, zero-add, suc-add}
@@ -24,6 +24,14 @@ turned p f s m = omega arith
 pub product_next : (s k : ℕ) → product s (k + 1) ≡ product s k * (s * (k + 1))
 unfolding factorial
 product_next s k = rw (add-one, pow-suc s k) (sym (turned (s ^ k) (factorial k) s (suc k)))
+
+pub product_none : (s : ℕ) → product s 0 ≡ 1
+unfolding factorial
+product_none s = rw (pow-zero s) refl
+
+-- the product with one factor more
+pub product_more : (s k : ℕ) {r : ℕ} → r ≡ product s k → r * (s * (k + 1)) ≡ product s (k + 1)
+product_more s k e = rw e (sym (product_next s k))
 
 product_step : (s k : ℕ) → 1 ≤ s → product s k ≤ product s (k + 1)
 product_step s k h =

@@ -1,6 +1,6 @@
 -- Document 02, ticket K4: "For every component, in the order of its lowest node, give the name and the group's order". Components are those of `Minimal`: over
 -- stored edges. No limit of nodes stands here but in the places of an answer.
-use Rattle.std.specs.Prelude.{List, [], ◌∷◌, ◌++◌, true, ◌≢◌, ◌≡◌, ℕ, zero, suc, ◌≤◌, ◌<◌, length}
+use Rattle.std.specs.Prelude.{List, [], ◌∷◌, ◌++◌, true, ◌≢◌, ◌≡◌, ℕ, zero, suc, ◌≤◌, ◌<◌, length, Result, Ok, Err}
 use Rattle.cd.specs.Arrays.{padded}
 use Rattle.cd.specs.Diagrams.{Stored, limit}
 use Rattle.cd.specs.Minimal.{Linked}
@@ -8,7 +8,6 @@ use Rattle.cd.specs.Paths.{Path}
 use Rattle.cd.specs.declared.CdError.{CdError}
 use Rattle.cd.specs.declared.CdError.TheVariants.{NoName}
 use Rattle.filing.specs.Fractions.{Fraction, SameFraction}
-use Rattle.parse.specs.declared.Answer.TheVariants as said
 use Rattle.tables.specs.Diagrams.{joint}
 use Rattle.group_names.specs.Names.{is_name, rank, entry, order}
 use Rattle.group_names.specs.declared.Group.{Group}
@@ -60,12 +59,9 @@ abbrev pub blank : Group
 blank = record { node = 0; name = A 0; order = 0 }
 
 abbrev pub listing : List Group → Groups
-listing gs = record { answer = said.Accepted; at = padded blank limit gs; count = length gs }
-
-abbrev pub refusal : CdError → Groups
-refusal e = record { answer = said.Refused e; at = padded blank limit []; count = 0 }
+listing gs = record { at = padded blank limit gs; count = length gs }
 
 -- of n nodes and stored edges: all components, or, "it refuses the first component that no name fits (21, its lowest node)"
-pub data Names (n : ℕ) (es : List Stored) (r : Groups) : Type 0 where
-  named : {gs : List Group} → Lists n es n gs → r ≡ listing gs → Names n es r
-  nameless : {c : ℕ} {gs : List Group} → c < n → Lists n es c gs → Lowest n es c → Nameless n es c → r ≡ refusal (NoName c) → Names n es r
+pub data Names (n : ℕ) (es : List Stored) (r : Result Groups CdError) : Type 0 where
+  named : {gs : List Group} → Lists n es n gs → r ≡ Ok (listing gs) → Names n es r
+  nameless : {c : ℕ} {gs : List Group} → c < n → Lists n es c gs → Lowest n es c → Nameless n es c → r ≡ Err (NoName c) → Names n es r

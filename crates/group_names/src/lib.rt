@@ -7,7 +7,6 @@ ghost use Rattle.filing.specs.Factorials.{factorial};
 ghost use Rattle.group_names.specs.Names.{is_name, rank as the_rank, entry as the_entry, written as the_written, order as the_order};
 
 use cd::LIMIT;
-use parse::Answer;
 
 // A, B and D with their size, I2 with its p.
 #[derive(Clone, Copy)]
@@ -39,16 +38,16 @@ pub struct Group {
     pub order: u64,
 }
 
-// The components by rising lowest node, the first `count` of `at`, or what refuses them.
+// The components by rising lowest node: the first `count` of `at`. (A count beside an array, since no heap is used.)
 #[derive(Clone, Copy)]
 pub struct Groups {
-    pub answer: Answer,
     pub at: [Group; LIMIT],
     pub count: usize,
 }
 
 // ---- the names
 
+#[tactic(auto, unfolding(crate::specs::Names::is_name))]
 pub fn is_name(x: Name) -> bool
     ensures { result ≡ is_name x }
 {
@@ -56,35 +55,29 @@ pub fn is_name(x: Name) -> bool
         Name::A(n) => 1 <= n,
         Name::B(n) => 2 <= n,
         Name::D(n) => 4 <= n,
-        Name::E6 => true,
-        Name::E7 => true,
-        Name::E8 => true,
-        Name::F4 => true,
-        Name::H3 => true,
-        Name::H4 => true,
+        Name::E6 | Name::E7 | Name::E8 | Name::F4 | Name::H3 | Name::H4 => true,
         Name::I2(p) => 5 <= p,
     }
 }
 
 // How many nodes the diagram has.
+#[tactic(auto, unfolding(crate::specs::Names::rank))]
 pub fn rank(x: Name) -> usize
     ensures { result ≡ the_rank x }
 {
     match x {
-        Name::A(n) => n,
-        Name::B(n) => n,
-        Name::D(n) => n,
+        Name::A(n) | Name::B(n) | Name::D(n) => n,
         Name::E6 => 6,
         Name::E7 => 7,
         Name::E8 => 8,
-        Name::F4 => 4,
+        Name::F4 | Name::H4 => 4,
         Name::H3 => 3,
-        Name::H4 => 4,
         Name::I2(_) => 2,
     }
 }
 
 // The whole number between the nodes i and j, 2 where nothing joins them.
+#[tactic(auto, unfolding(crate::specs::Names::entry, cox::specs::Families::made))]
 pub fn entry(x: Name, i: usize, j: usize) -> u32
     requires { (i < limit) × (j < limit) }
     ensures { result ≡ the_entry x i j }
@@ -95,45 +88,36 @@ pub fn entry(x: Name, i: usize, j: usize) -> u32
         Name::A(_) => c,
         Name::B(_) => cox::families::made(0, 1, 4, c, i, j),
         Name::D(_) => cox::families::made(0, 2, 3, b, i, j),
-        Name::E6 => cox::families::made(0, 3, 3, b, i, j),
-        Name::E7 => cox::families::made(0, 3, 3, b, i, j),
-        Name::E8 => cox::families::made(0, 3, 3, b, i, j),
+        Name::E6 | Name::E7 | Name::E8 => cox::families::made(0, 3, 3, b, i, j),
         Name::F4 => cox::families::made(1, 2, 4, c, i, j),
-        Name::H3 => cox::families::made(0, 1, 5, c, i, j),
-        Name::H4 => cox::families::made(0, 1, 5, c, i, j),
+        Name::H3 | Name::H4 => cox::families::made(0, 1, 5, c, i, j),
         Name::I2(p) => cox::families::made(0, 1, p, c, i, j),
     }
 }
 
-fn parts(letter: u8, number: u64) -> NameParts
-    ensures { (result.letter ≡ letter) × (result.number ≡ number) }
-{
-    NameParts {
-        letter: letter,
-        number: number,
-    }
-}
-
+#[tactic(auto, unfolding(crate::specs::Names::written))]
 pub fn written(x: Name) -> NameParts
     ensures { result ≡ the_written x }
 {
-    match x {
-        Name::A(n) => parts(b'A', n as u64),
-        Name::B(n) => parts(b'B', n as u64),
-        Name::D(n) => parts(b'D', n as u64),
-        Name::E6 => parts(b'E', 6),
-        Name::E7 => parts(b'E', 7),
-        Name::E8 => parts(b'E', 8),
-        Name::F4 => parts(b'F', 4),
-        Name::H3 => parts(b'H', 3),
-        Name::H4 => parts(b'H', 4),
-        Name::I2(p) => parts(b'I', p as u64),
-    }
+    let (letter, number) = match x {
+        Name::A(n) => (b'A', n as u64),
+        Name::B(n) => (b'B', n as u64),
+        Name::D(n) => (b'D', n as u64),
+        Name::E6 => (b'E', 6),
+        Name::E7 => (b'E', 7),
+        Name::E8 => (b'E', 8),
+        Name::F4 => (b'F', 4),
+        Name::H3 => (b'H', 3),
+        Name::H4 => (b'H', 4),
+        Name::I2(p) => (b'I', p as u64),
+    };
+    NameParts { letter, number }
 }
 
 // ---- the orders
 
 // The product of the first n multiples of 1 or of 2; that of 16 fits 64 bits.
+#[tactic(auto, using(crate::proofs::Orders::product_none, crate::proofs::Orders::product_more, crate::proofs::Orders::product_fits))]
 fn multiples(of: u64, n: usize) -> u64
     requires { (1 ≤ of) × (of ≤ 2) × (n ≤ 16) }
     ensures { result ≡ of ^ n * factorial n }
@@ -145,6 +129,7 @@ fn multiples(of: u64, n: usize) -> u64
     r
 }
 
+#[tactic(auto, using(crate::proofs::Orders::product_one, crate::proofs::Orders::half_product), unfolding(crate::specs::Names::order, crate::specs::Names::rank, crate::specs::Names::is_name))]
 pub fn order(x: Name) -> u64
     requires { (is_name x ≡ true) × (the_rank x ≤ 15) }
     ensures { result ≡ the_order x }

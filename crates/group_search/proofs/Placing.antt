@@ -10,6 +10,8 @@ use native.Mathlib.Numerals.{add-one}
 use native.Mathlib.Omega.{arith}
 use borrow.Author.Tests.{eq-eqb, ne_eqb}
 use lib.ListN.{length, set, length-set}
+use Rattle.std.specs.Prelude.{◌==◌, count_by, take}
+use Rattle.std.proofs.lemmas.List.Sums.{count_by_more_yes, count_by_more_no}
 use Rattle.filing.specs.Numberings.{Injects, at}
 use Rattle.filing.specs.Sequences.{Agree}
 use Rattle.filing.proofs.Bytes.{one_more}
@@ -45,13 +47,7 @@ module _ {N : ℕ} {pairs of : List ℕ} {n c : ℕ} {x : Name} where
       filled = rw add-one (put p v r.filled (omega (arith, r.room, r.small)) hv hc s);
     }
 
-    pub all_placed : k ≡ m → GoesOn N pairs of n c x m k p
-    all_placed e = (at p, rw e at r.filled, λ i h. refl)
-
     -- ---- the nodes tried at place k
-    pub tried_none : Tried N pairs of n c x m k p zero
-    tried_none q e h = zero-le
-
     tried_more : {v : ℕ} → Tried N pairs of n c x m k p v → ((q : ℕ → ℕ) → Embeds N pairs of n c x m q → Agree k q (at p) → q k ≡ v → ⊥) → Tried N pairs of n c x m k p (v + 1)
     tried_more {v} t not q e h = go (ℕ_discrete (q k) v)
       where
@@ -71,12 +67,6 @@ module _ {N : ℕ} {pairs of : List ℕ} {n c : ℕ} {x : Name} where
           tried_more t (λ q e h s.
           not (q, e, λ i l. one_more (λ i. q i ≡ at (set p k v) i) (λ i b. h i b ∙ sym (put_below p k v i b)) (s ∙ sym (put_same p k v (omega (arith, r.room, r.small)))) i (rw add-one at l)))
 
-      pub goes_deeper : GoesOn N pairs of n c x m (k + 1) (set p k v) → GoesOn N pairs of n c x m k p
-      goes_deeper (q, e, h) = (q, e, λ i l. h i (omega arith) ∙ put_below p k v i l)
-
-      pub tried_all : n ≤ v → GoesOn N pairs of n c x m k p → ⊥
-      tried_all hv (q, e, h) = let z : ⊥ = omega (arith, t q e h, e.within k hk) in absurd z
-
 pub ready_start : {N n c m : ℕ} (pairs of p : List ℕ) (x : Name) → n ≤ N → m ≤ N → length p ≡ N → Ready N pairs of n c x m 0 p
 ready_start pairs of p x few small room = record {
   few = few;
@@ -93,6 +83,10 @@ module _ (of : List ℕ) (c : ℕ) where
   unfolding label_count
   count_none = zero-le
 
+  count_zero : label_count of c zero ≡ count_by (λ x. x == c) (take zero of)
+  unfolding label_count
+  count_zero = refl
+
   pub count_yes : (k : ℕ) → at of k ≡ c → label_count of c (suc k) ≡ suc (label_count of c k)
   unfolding label_count
   count_yes k e = rw (eq-eqb (at of k) c e)
@@ -100,6 +94,19 @@ module _ (of : List ℕ) (c : ℕ) where
   pub count_no : (k : ℕ) → at of k ≢ c → label_count of c (suc k) ≡ label_count of c k
   unfolding label_count
   count_no k e = rw (ne_eqb (at of k) c e)
+
+  -- the count is that of the labels
+  pub count_taken : (k : ℕ) → k ≤ length of → label_count of c k ≡ count_by (λ x. x == c) (take k of)
+  count_taken zero h = count_zero
+  count_taken (suc k) h = go (ℕ_discrete (at of k) c) (count_taken k (omega arith))
+    where
+      go : Dec (at of k ≡ c) → label_count of c k ≡ count_by (λ x. x == c) (take k of) → label_count of c (suc k) ≡ count_by (λ x. x == c) (take (suc k) of)
+      go (yes e) less =
+          let m : count_by (λ x. x == c) (take (suc k) of) ≡ count_by (λ x. x == c) (take k of) + 1 = rw (← add-one k) (count_by_more_yes (λ x. x == c) of k 0 h (eq-eqb (at of k) c e)) in
+          omega (arith, count_yes k e)
+      go (no e) less =
+          let m : count_by (λ x. x == c) (take (suc k) of) ≡ count_by (λ x. x == c) (take k of) = rw (← add-one k) (count_by_more_no (λ x. x == c) of k 0 h (ne_eqb (at of k) c e)) in
+          omega (arith, count_no k e)
 
   pub count_le : (k : ℕ) → label_count of c k ≤ k
   count_le zero = count_none

@@ -5,14 +5,14 @@ use Prim.Native.Nat.{ℕ, zero, suc, ◌+◌, ◌*◌, ◌^◌, ◌<◌}
 use native.Mathlib.Decide.{dec_lt}
 use native.Mathlib.Omega.{arith}
 use lib.ListN.{get_or}
+use Rattle.std.specs.Prelude.{Option, Some, None, MatchOption}
+use Rattle.std.specs.Option.{unwrap_or}
 use Rattle.filing.specs.Numberings.{at}
 use Rattle.group_names.specs.Names.{rank}
 use Rattle.group_names.specs.declared.Name.{Name}
 use Rattle.group_names.specs.declared.Name.TheVariants.{A, B, D, E6, E7, E8, F4, H3, H4, I2}
 use Rattle.group_names.proofs.NamesRight.{edges_I2}
-use Rattle.group_search.specs.declared.Known.{Known}
-use Rattle.group_search.specs.declared.Known.TheVariants.{Is, Nothing}
-use Rattle.group_search.specs.Steps.{whole_number, Embeds, label_count, Placed, Bond, alone, bound, Mirrored, candidates, Takes, Tells, is, nothing}
+use Rattle.group_search.specs.Steps.{whole_number, Embeds, label_count, Placed, Bond, Mirrored, candidates, Tells}
 use Rattle.group_search.proofs.Placing.{label_onto}
 
 pub embeds_apart : {N n c m : ℕ} {pairs of : List ℕ} {x : Name} {f : ℕ → ℕ} → Embeds N pairs of n c x m f → (i j : ℕ) → i < m → j < m → f i ≡ f j → i ≡ j
@@ -30,16 +30,16 @@ two_nodes : (p : ℕ) → rank (I2 p) ≡ 2
 unfolding rank
 two_nodes p = refl
 
-module _ {N n c m : ℕ} {pairs of : List ℕ} (inside : c < n) (mirrored : Mirrored N n pairs) (own : at of c ≡ c) (counted : m ≡ label_count of c n) where
+module _ (N : ℕ) (pairs of : List ℕ) {n c m : ℕ} (inside : c < n) (mirrored : Mirrored N n pairs) (own : at of c ≡ c) (counted : m ≡ label_count of c n) where
   -- of two nodes, the p is what joins them
-  bond_is : {q r : ℕ} → Bond N pairs of n c r → Placed N pairs of n c m (I2 q) → q ≡ r
-  bond_is {q} {r} (alone only) p =
+  bond_is : {q : ℕ} (r : Option ℕ) → Bond N pairs of n c r → Placed N pairs of n c m (I2 q) → q ≡ unwrap_or r 0
+  bond_is {q} None only p =
       let e = p.embeds in
       let two : 2 ≡ m = sym (two_nodes q) ∙ p.size in
       let h0 : 0 < m = omega arith in
       let h1 : 1 < m = omega arith in
       absurd ((e.agree 0 1 (omega arith) h1).other (only _ (e.within 0 h0) (e.label 0 h0) ∙ sym (only _ (e.within 1 h1) (e.label 1 h1))))
-  bond_is {q} {r} (bound {v} hv lv ne s) p =
+  bond_is {q} (Some r) (v, hv, lv, ne, s) p =
       let (i, hi, fi) = label_onto of c counted e.within e.label (embeds_apart e) c inside own in
       let (j, hj, fj) = label_onto of c counted e.within e.label (embeds_apart e) v hv lv in
       go i j (omega (arith, two, hi)) (omega (arith, two, hj)) fi fj
@@ -66,34 +66,21 @@ module _ {N n c m : ℕ} {pairs of : List ℕ} (inside : c < n) (mirrored : Mirr
       go (suc zero) (suc (suc j)) hi hj fi fj = let z : ⊥ = omega arith in absurd z
 
   -- if no candidate can be placed, no name can
-  none_of : {r : ℕ} (d : Name) → Bond N pairs of n c r → ((k : ℕ) → k < 10 → Placed N pairs of n c m (get_or (candidates m r) k d) → ⊥) → (x : Name) → Placed N pairs of n c m x → ⊥
+  none_of : (r : Option ℕ) (d : Name) → Bond N pairs of n c r → ((k : ℕ) → k < 10 → Placed N pairs of n c m (get_or (candidates m (unwrap_or r 0)) k d) → ⊥) → (x : Name) → Placed N pairs of n c m x → ⊥
   unfolding rank candidates
-  none_of d bond not (A k) p = not 0 (omega arith) (subst (λ z. Placed N pairs of n c m (A z)) p.size p)
-  none_of d bond not (B k) p = not 1 (omega arith) (subst (λ z. Placed N pairs of n c m (B z)) p.size p)
-  none_of d bond not (D k) p = not 2 (omega arith) (subst (λ z. Placed N pairs of n c m (D z)) p.size p)
-  none_of d bond not E6 p = not 3 (omega arith) p
-  none_of d bond not E7 p = not 4 (omega arith) p
-  none_of d bond not E8 p = not 5 (omega arith) p
-  none_of d bond not F4 p = not 6 (omega arith) p
-  none_of d bond not H3 p = not 7 (omega arith) p
-  none_of d bond not H4 p = not 8 (omega arith) p
-  none_of d bond not (I2 q) p = not 9 (omega arith) (subst (λ z. Placed N pairs of n c m (I2 z)) (bond_is bond p) p)
+  none_of r d bond not (A k) p = not 0 (omega arith) (subst (λ z. Placed N pairs of n c m (A z)) p.size p)
+  none_of r d bond not (B k) p = not 1 (omega arith) (subst (λ z. Placed N pairs of n c m (B z)) p.size p)
+  none_of r d bond not (D k) p = not 2 (omega arith) (subst (λ z. Placed N pairs of n c m (D z)) p.size p)
+  none_of r d bond not E6 p = not 3 (omega arith) p
+  none_of r d bond not E7 p = not 4 (omega arith) p
+  none_of r d bond not E8 p = not 5 (omega arith) p
+  none_of r d bond not F4 p = not 6 (omega arith) p
+  none_of r d bond not H3 p = not 7 (omega arith) p
+  none_of r d bond not H4 p = not 8 (omega arith) p
+  none_of r d bond not (I2 q) p = not 9 (omega arith) (subst (λ z. Placed N pairs of n c m (I2 z)) (bond_is r bond p) p)
 
-  pub none_left : {r : ℕ} (d : Name) (all : List Name) → all ≡ candidates m r → Bond N pairs of n c r → ((k : ℕ) → k < 10 → Placed N pairs of n c m (get_or all k d) → ⊥) → (x : Name) → Placed N pairs of n c m x → ⊥
-  none_left d all e bond not = none_of d bond (λ k h p. not k h (subst (λ z. Placed N pairs of n c m (get_or z k d)) (sym e) p))
-
--- ---- what is told
-
-pub told : {N n c m : ℕ} {pairs of : List ℕ} {x : Name} {r : Known} → m ≡ label_count of c n → Placed N pairs of n c m x → r ≡ Is x → Tells N pairs of n c r
-told {N} {n} {c} {m} {pairs} {of} {x} e p q = is (subst (λ k. Placed N pairs of n c k x) e p) q
-
-pub told_nothing : {N n c m : ℕ} {pairs of : List ℕ} {r : Known} → m ≡ label_count of c n → ((x : Name) → Placed N pairs of n c m x → ⊥) → r ≡ Nothing → Tells N pairs of n c r
-told_nothing {N} {n} {c} {m} {pairs} {of} e none q = nothing (λ x p. none x (subst (λ k. Placed N pairs of n c k x) (sym e) p)) q
-
-pub told_name : {N n c : ℕ} {pairs of : List ℕ} {y : Name} {r : Known} → Tells N pairs of n c r → r ≡ Is y → Takes N pairs of n c y
-told_name {N} {n} {c} {pairs} {of} {y} (is {x} t e) q = let s : x ≡ y = cc in subst (λ z. Takes N pairs of n c z) s t
-told_name (nothing none e) q = let z : ◌≡◌ {A = ℕ} 0 1 = (cc) in let o : ⊥ = omega arith in absurd o
-
-pub told_none : {N n c : ℕ} {pairs of : List ℕ} {r : Known} → Tells N pairs of n c r → r ≡ Nothing → (x : Name) → Takes N pairs of n c x → ⊥
-told_none (is t e) q = let z : ◌≡◌ {A = ℕ} 0 1 = (cc) in let o : ⊥ = omega arith in absurd o
-told_none (nothing none e) q = none
+  -- what is told of a name that was found among the candidates, or of none
+  pub tells_found : (r : Option ℕ) (d : Name) (all : List Name) (o : Option Name) → all ≡ candidates m (unwrap_or r 0) → Bond N pairs of n c r
+      → MatchOption o ((k : ℕ) → k < 10 → Placed N pairs of n c m (get_or all k d) → ⊥) (Placed N pairs of n c m) → Tells N pairs of n c o
+  tells_found r d all None e bond not = λ x p. none_of r d bond (λ k h q. not k h (subst (λ z. Placed N pairs of n c m (get_or z k d)) (sym e) q)) x (subst (λ k. Placed N pairs of n c k x) (sym counted) p)
+  tells_found r d all (Some x) e bond p = subst (λ k. Placed N pairs of n c k x) counted p

@@ -1,17 +1,13 @@
 -- What the steps of naming promise each other, over labels and the table of pairs. No public promise leans on this file. N is the limit of nodes.
-use Rattle.std.specs.Prelude.{true, List, [], ◌∷◌, ◌++◌, ◌≢◌, ◌≡◌, ℕ, zero, suc, ◌+◌, ◌*◌, ◌/◌, ◌^◌, ◌≤◌, ◌<◌, eqb, length}
-use Rattle.cd.specs.declared.CdError.TheVariants.{NoName}
+use Rattle.std.specs.Prelude.{true, List, [], ◌∷◌, ◌++◌, ◌≢◌, ◌≡◌, ℕ, zero, suc, ◌+◌, ◌*◌, ◌/◌, ◌^◌, ◌≤◌, ◌<◌, eqb, length, Option, MatchOption}
 use Rattle.float.specs.Pick.{pick}
 use Rattle.filing.specs.Numberings.{at}
 use Rattle.filing.specs.Sequences.{Agree}
-use Rattle.group_names.specs.Named.{group, listing, refusal}
+use Rattle.group_names.specs.Named.{group}
 use Rattle.group_names.specs.Names.{is_name, rank, entry}
 use Rattle.group_names.specs.declared.Group.{Group}
-use Rattle.group_names.specs.declared.Groups.{Groups}
 use Rattle.group_names.specs.declared.Name.{Name}
 use Rattle.group_names.specs.declared.Name.TheVariants.{A, B, D, E6, E7, E8, F4, H3, H4, I2}
-use Rattle.group_search.specs.declared.Known.{Known}
-use Rattle.group_search.specs.declared.Known.TheVariants.{Is, Nothing}
 
 -- ---- the search
 
@@ -63,10 +59,13 @@ pub record Placed (N : ℕ) (pairs of : List ℕ) (n c m : ℕ) (x : Name) : Typ
   pub places : ℕ → ℕ
   pub embeds : Embeds N pairs of n c x m places
 
--- what joins c to another node of its component, if that has one: r is that number
-pub data Bond (N : ℕ) (pairs of : List ℕ) (n c r : ℕ) : Type 0 where
-  alone : ((v : ℕ) → v < n → at of v ≡ c → v ≡ c) → Bond N pairs of n c r
-  bound : {v : ℕ} → v < n → at of v ≡ c → v ≢ c → r ≡ at pairs (N * c + v) / 2 ^ 32 → Bond N pairs of n c r
+-- p is the number that joins c to another node of its component
+abbrev pub Bound : ℕ → List ℕ → List ℕ → ℕ → ℕ → ℕ → Type 0
+Bound N pairs of n c p = (v : ℕ) × (v < n) × (at of v ≡ c) × (v ≢ c) × (p ≡ at pairs (N * c + v) / 2 ^ 32)
+
+-- what joins c to another node of its component, if that has one
+abbrev pub Bond : ℕ → List ℕ → List ℕ → ℕ → ℕ → Option ℕ → Type 0
+Bond N pairs of n c r = MatchOption r ((v : ℕ) → v < n → at of v ≡ c → v ≡ c) (Bound N pairs of n c)
 
 -- the table has each pair of n nodes in both orders
 abbrev pub Mirrored : ℕ → ℕ → List ℕ → Type 0
@@ -81,9 +80,8 @@ abbrev pub Takes : ℕ → List ℕ → List ℕ → ℕ → ℕ → Name → Ty
 Takes N pairs of n c x = Placed N pairs of n c (label_count of c n) x
 
 -- what is known of a component's name
-pub data Tells (N : ℕ) (pairs of : List ℕ) (n c : ℕ) (r : Known) : Type 0 where
-  is : {x : Name} → Takes N pairs of n c x → r ≡ Is x → Tells N pairs of n c r
-  nothing : ((x : Name) → Takes N pairs of n c x → ⊥) → r ≡ Nothing → Tells N pairs of n c r
+abbrev pub Tells : ℕ → List ℕ → List ℕ → ℕ → ℕ → Option Name → Type 0
+Tells N pairs of n c r = MatchOption r ((x : Name) → Takes N pairs of n c x → ⊥) (Takes N pairs of n c)
 
 -- ---- the components, one after another
 
@@ -92,9 +90,3 @@ pub data Walks (N : ℕ) (pairs of : List ℕ) (n : ℕ) : ℕ → List Group �
   none : Walks N pairs of n zero []
   passed : {k : ℕ} {gs : List Group} → Walks N pairs of n k gs → at of k ≢ k → Walks N pairs of n (suc k) gs
   listed : {k : ℕ} {gs : List Group} {x : Name} → Walks N pairs of n k gs → at of k ≡ k → Takes N pairs of n k x → Walks N pairs of n (suc k) (gs ++ (group k x ∷ []))
-
--- node c is met after the list gs
-pub data Meets (N : ℕ) (pairs of : List ℕ) (n c : ℕ) (gs : List Group) (r : Groups) : Type 0 where
-  passed : at of c ≢ c → r ≡ listing gs → Meets N pairs of n c gs r
-  listed : {x : Name} → at of c ≡ c → Takes N pairs of n c x → r ≡ listing (gs ++ (group c x ∷ [])) → Meets N pairs of n c gs r
-  nameless : at of c ≡ c → ((x : Name) → Takes N pairs of n c x → ⊥) → r ≡ refusal (NoName c) → Meets N pairs of n c gs r

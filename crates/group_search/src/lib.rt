@@ -3,21 +3,18 @@
 #![tactic(auto)]
 
 ghost use Rattle.std.specs.Prelude.{List, [], ◌≡◌, ℕ, ◌<◌, ◌≤◌, length};
-ghost use Rattle.cd.specs.Arrays.{padded};
 ghost use Rattle.cd.specs.Diagrams.{Stored, limit, cd_of};
 ghost use Rattle.cd.specs.Minimal.{Decides};
 ghost use Rattle.cd.specs.declared.Node.{Node};
 ghost use Rattle.filing.specs.Numberings.{at};
 ghost use Rattle.tables.specs.Diagrams.{diagram};
 ghost use Rattle.tables.specs.Tables.{IsKept};
-ghost use Rattle.group_names.specs.declared.Group.{Group as AGroup};
 ghost use Rattle.group_names.specs.declared.Name.{Name as AName};
-ghost use Rattle.group_names.specs.Named.{blank, listing, refusal as the_refusal, Names};
-ghost use Rattle.group_search.specs.Steps.{whole_number, Wants, Suits, GoesOn, Ready, label_count, Placed, Bond, Mirrored, candidates as the_candidates, Tells, Meets};
+ghost use Rattle.group_names.specs.Named.{listing, Names};
+ghost use Rattle.group_search.specs.Steps.{whole_number, Wants, Suits, GoesOn, Ready, label_count, Placed, Bond, Mirrored, candidates as the_candidates, Tells};
 
 use cd::{Cd, CdError, LIMIT, SQUARE};
 use group_names::{Group, Groups, Name};
-use parse::Answer;
 
 // ---- the search
 
@@ -34,128 +31,26 @@ fn wanted(x: Name, k: usize) -> [u64; LIMIT]
     ensures { Wants x k result }
 {
     let mut out = [0; LIMIT];
-    let mut i = 0;
-    while i < k {
+    for i in 0..k {
         out[i] = whole(group_names::entry(x, i, k));
-        i += 1;
     }
     out
-}
-
-// Whether v can stand at place k: it is none of the nodes at the places before, and joined to each as is wanted. (From the last place down, since most nodes
-// of a family are joined to the one before.)
-fn suits(
-    pairs: &[u64; SQUARE],
-    wanted: &[u64; LIMIT],
-    p: &[usize; LIMIT],
-    k: usize,
-    v: usize,
-) -> bool
-    requires { (k < limit) × (v < limit) × ((i : ℕ) → i < k → at p.now i < limit) }
-    ensures { (x : AName) → Wants x k wanted.now → Decides (Suits limit pairs.now x (at p.now) k v) result }
-{
-    let mut i = k;
-    while 0 < i {
-        i -= 1;
-        let u = p[i];
-        if u == v {
-            return false;
-        }
-        if tables::pair_at(pairs, u, v) != wanted[i] {
-            return false;
-        }
-    }
-    true
-}
-
-// Whether the places from k to m can be filled with nodes labelled c, the first k being filled.
-fn goes_on(
-    pairs: &[u64; SQUARE],
-    of: &[usize; LIMIT],
-    n: usize,
-    c: usize,
-    x: Name,
-    m: usize,
-    k: usize,
-    p: [usize; LIMIT],
-) -> bool
-    requires { Ready limit pairs.now of.now n c x m k p }
-    ensures { Decides (GoesOn limit pairs.now of.now n c x m k p) result }
-{
-    if k == m {
-        return true;
-    }
-    let wanted = wanted(x, k);
-    let mut v = 0;
-    while v < n {
-        if of[v] == c {
-            if suits(pairs, &wanted, &p, k, v) {
-                let mut q = p;
-                q[k] = v;
-                if goes_on(pairs, of, n, c, x, m, k + 1, q) {
-                    return true;
-                }
-            }
-        }
-        v += 1;
-    }
-    false
 }
 
 // ---- a component's name
 
 // How many of n nodes have the label c.
+#[tactic(auto, using(crate::proofs::Placing::count_taken))]
 fn label_count(of: &[usize; LIMIT], n: usize, c: usize) -> usize
     requires { n ≤ limit }
-    ensures { (result ≡ label_count of.now c n) × (result ≤ n) }
+    ensures { result ≡ label_count of.now c n }
 {
-    let mut r = 0;
-    let mut k = 0;
-    while k < n {
-        if of[k] == c {
-            r += 1;
-        }
-        k += 1;
-    }
-    r
+    of[..n].iter().filter(|label| **label == c).count()
 }
-
-// Whether all nodes of the name's diagram, m of them, have a place among the nodes labelled c.
-fn fits(pairs: &[u64; SQUARE], of: &[usize; LIMIT], n: usize, c: usize, m: usize, x: Name) -> bool
-    requires { (n ≤ limit) × (m ≤ limit) }
-    ensures { Decides (Placed limit pairs.now of.now n c m x) result }
-{
-    if !group_names::is_name(x) {
-        return false;
-    }
-    if group_names::rank(x) != m {
-        return false;
-    }
-    let p = [0; LIMIT];
-    goes_on(pairs, of, n, c, x, m, 0, p)
-}
-
-// What joins c to another node of its component, a whole number if it is one: its p, if there are two nodes.
-fn bond(pairs: &[u64; SQUARE], of: &[usize; LIMIT], n: usize, c: usize) -> u32
-    requires { (n ≤ limit) × (c < n) }
-    ensures { Bond limit pairs.now of.now n c result }
-{
-    let mut v = 0;
-    while v < n {
-        if of[v] == c {
-            if v != c {
-                return (tables::pair_at(pairs, c, v) / 0x1_0000_0000) as u32;
-            }
-        }
-        v += 1;
-    }
-    0
-}
-
-const CANDIDATES: usize = 10;
 
 // The names that a component of m nodes may have, if it is joined by p where m is 2.
-fn candidates(m: usize, p: u32) -> [Name; CANDIDATES]
+#[tactic(auto, unfolding(crate::specs::Steps::candidates))]
+fn candidates(m: usize, p: u32) -> [Name; 10]
     ensures { result ≡ the_candidates m p }
 {
     [
@@ -172,114 +67,126 @@ fn candidates(m: usize, p: u32) -> [Name; CANDIDATES]
     ]
 }
 
-// What is known of a component's name.
+// A component of a diagram: of its first `count` nodes those with the label `lowest`, `size` of them. That of a node is the lowest node of its component.
 #[derive(Clone, Copy)]
-pub enum Known {
-    Is(Name),
-    Nothing,
+struct Component<'a> {
+    pairs: &'a [u64; SQUARE],
+    of: &'a [usize; LIMIT],
+    count: usize,
+    lowest: usize,
+    size: usize,
+    ghost few: { count ≤ limit },
+    ghost inside: { lowest < count },
+    ghost own: { at of.now lowest ≡ lowest },
+    ghost counted: { size ≡ label_count of.now lowest count },
+    ghost mirrored: { Mirrored limit count pairs.now },
 }
 
-// The name of the component whose lowest node is c.
-fn name(pairs: &[u64; SQUARE], of: &[usize; LIMIT], n: usize, c: usize) -> Known
-    requires { (n ≤ limit) × (c < n) × Mirrored limit n pairs.now × (at of.now c ≡ c) }
-    ensures { Tells limit pairs.now of.now n c result }
-{
-    let m = label_count(of, n, c);
-    let all = candidates(m, bond(pairs, of, n, c));
-    let mut k = 0;
-    while k < CANDIDATES {
-        let x = all[k];
-        if fits(pairs, of, n, c, m, x) {
-            return Known::Is(x);
-        }
-        k += 1;
+impl Component<'_> {
+    // Whether v can stand at place k: it is none of the nodes at the places before, and joined to each as is wanted. (From the last place down, since most nodes
+    // of a family are joined to the one before.)
+    fn suits(&self, wanted: &[u64; LIMIT], p: &[usize; LIMIT], k: usize, v: usize) -> bool
+        requires { (k < limit) × (v < limit) × ((i : ℕ) → i < k → at p.now i < limit) }
+        ensures { (x : AName) → Wants x k wanted.now → Decides (Suits limit self.now.pairs.now x (at p.now) k v) result }
+    {
+        (0..k).rev().all(|i| p[i] != v && tables::pair_at(self.pairs, p[i], v) == wanted[i])
     }
-    Known::Nothing
+
+    // Whether the places from k on can be filled with nodes of the component, the first k being filled.
+    fn goes_on(&self, x: Name, k: usize, p: [usize; LIMIT]) -> bool
+        requires { Ready limit self.now.pairs.now self.now.of.now self.now.count self.now.lowest x self.now.size k p }
+        ensures { Decides (GoesOn limit self.now.pairs.now self.now.of.now self.now.count self.now.lowest x self.now.size k p) result }
+    {
+        if k == self.size {
+            return true;
+        }
+        let wanted = wanted(x, k);
+        for v in 0..self.count {
+            if self.of[v] == self.lowest && self.suits(&wanted, &p, k, v) {
+                let mut next = p;
+                next[k] = v;
+                if self.goes_on(x, k + 1, next) {
+                    return true;
+                }
+            }
+        }
+        false
+    }
+
+    // Whether all nodes of the name's diagram have a place in the component, and leave out none.
+    #[tactic(auto, using(crate::proofs::Placing::ready_start, crate::proofs::Placing::count_le))]
+    fn fits(&self, x: Name) -> bool
+        ensures { Decides (Placed limit self.now.pairs.now self.now.of.now self.now.count self.now.lowest self.now.size x) result }
+    {
+        group_names::is_name(x)
+            && group_names::rank(x) == self.size
+            && self.goes_on(x, 0, [0; LIMIT])
+    }
+
+    // What joins the lowest node to another, a whole number if it is one: its p, if there are two nodes.
+    fn bond(&self) -> Option<u32>
+        ensures { Bond limit self.now.pairs.now self.now.of.now self.now.count self.now.lowest result }
+    {
+        let v = (0..self.count).find(|v| self.of[*v] == self.lowest && *v != self.lowest)?;
+        Some((tables::pair_at(self.pairs, self.lowest, v) / 0x1_0000_0000) as u32)
+    }
+
+    // The component's name, if one fits. (Where nothing joins it to another, I2(0) is no name.)
+    fn name(&self) -> Option<Name>
+        ensures { Tells limit self.now.pairs.now self.now.of.now self.now.count self.now.lowest result }
+    {
+        candidates(self.size, self.bond().unwrap_or(0))
+            .into_iter()
+            .find(|x| self.fits(*x))
+    }
 }
 
 // ---- the components, one after another
 
-fn blanks() -> [Group; LIMIT]
-    ensures { result ≡ padded blank limit [] }
+// Nothing listed yet.
+#[tactic(auto, unfolding(cd::specs::Arrays::padded))]
+fn none() -> Groups
+    ensures { result ≡ listing [] }
 {
     let blank = Group {
         node: 0,
         name: Name::A(0),
         order: 0,
     };
-    [blank; LIMIT]
-}
-
-// Nothing listed yet.
-fn none() -> Groups
-    ensures { result ≡ listing [] }
-{
     Groups {
-        answer: Answer::Accepted,
-        at: blanks(),
+        at: [blank; LIMIT],
         count: 0,
     }
 }
 
-pub fn refusal(e: CdError) -> Groups
-    ensures { result ≡ the_refusal e }
-{
-    Groups {
-        answer: Answer::Refused(e),
-        at: blanks(),
-        count: 0,
-    }
-}
-
-// The list once node c is met: with c's component, if c is its lowest node; or the refusal, if that has no name.
-fn met(pairs: &[u64; SQUARE], of: &[usize; LIMIT], n: usize, c: usize, groups: Groups) -> Groups
-    requires { (n ≤ limit) × (c < n) × (groups.count ≤ c) × Mirrored limit n pairs.now }
-    ensures { (gs : List AGroup) → groups ≡ listing gs → Meets limit pairs.now of.now n c gs result }
-{
-    if of[c] != c {
-        return groups;
-    }
-    match name(pairs, of, n, c) {
-        Known::Is(x) => {
-            let mut at = groups.at;
-            let count = groups.count;
-            at[count] = Group {
-                node: c,
-                name: x,
-                order: group_names::order(x),
-            };
-            Groups {
-                answer: Answer::Accepted,
-                at: at,
-                count: count + 1,
-            }
-        }
-        Known::Nothing => refusal(CdError::NoName { node: c }),
-    }
-}
-
-// The names of a diagram's components.
-pub fn groups(cd: Cd) -> Groups
+// The names of a diagram's components, or the first component that no name fits.
+#[tactic(auto, using(crate::proofs::Placing::count_le))]
+pub fn groups(cd: Cd) -> Result<Groups, CdError>
     requires { cd.count ≤ limit }
     ensures { (ns : List Node) (es : List Stored) → cd ≡ cd_of ns es → IsKept limit (diagram ns es) → Names (length ns) es result }
 {
     let of = minimal::components(cd);
     let pairs = tables::pairs_of(cd);
-    let n = cd.count;
     let mut out = none();
-    let mut c = 0;
-    while c < n {
-        let next = met(&pairs, &of, n, c, out);
-        let answer = next.answer;
-        match answer {
-            Answer::Accepted => {
-                out = next;
-            }
-            Answer::Refused(_) => {
-                return next;
-            }
+    for c in 0..cd.count {
+        if of[c] == c {
+            let component = Component {
+                pairs: &pairs,
+                of: &of,
+                count: cd.count,
+                lowest: c,
+                size: label_count(&of, cd.count, c),
+            };
+            let Some(name) = component.name() else {
+                return Err(CdError::NoName { node: c });
+            };
+            out.at[out.count] = Group {
+                node: c,
+                name,
+                order: group_names::order(name),
+            };
+            out.count += 1;
         }
-        c += 1;
     }
-    out
+    Ok(out)
 }

@@ -3,7 +3,7 @@ use Rattle.std.specs.Prelude.{Result, Ok, Err}
 use Prim.Native.Nat.{ℕ, ◌≤◌}
 use mathlib.Core.Bool.{Bool}
 use mathlib.Core.List.{List}
-use mathlib.Core.Path.{◌≡◌, refl, sym, ◌∙◌}
+use mathlib.Core.Path.{◌≡◌, refl, sym, ◌∙◌, subst}
 use Rattle.cd.specs.Diagrams.{Stored, limit, cd_of}
 use Rattle.cd.specs.Minimal.{Minimal, Decides}
 use Rattle.cd.specs.declared.Cd.{Cd}
@@ -54,3 +54,11 @@ answers {ns = ns} {es = es} h (accepted {ns = ms} {es = fs} {b = b} k d e) =
     let n : ns ≡ ms = cc in
     let f : es ≡ fs = cc in
     record { reading = record { cd = cd_of ms fs; minimal = b }; is = e; cd = rw (n, f); mark = rw (n, f) d }
+
+pub shown : {wish : Bool} {text : List ℕ} {ns : List Node} {es : List Stored} {p : lexicon.Reading} → read wish text ≡ Accepted ns es → Reads wish text (Ok p)
+    → (p.cd ≡ cd_of ns es) × Decides (Minimal ns es) p.minimal
+shown {ns = ns} {es = es} {p = p} h k =
+    let a = answers h k in
+    let e = a.is in
+    let same : a.reading ≡ p = cc in
+    subst (λ (z : lexicon.Reading). (z.cd ≡ cd_of ns es) × Decides (Minimal ns es) z.minimal) same (a.cd, a.mark)

@@ -1,28 +1,29 @@
 -- Ticket K11: "any two accepted texts with equal filing records have the same minimal mark, the same number of stored edges between different nodes, and the same
 -- names and orders as a multiset, unless both are refused with 21". Each text has a wish of its own. By demand 3 some renumbering carries one diagram onto the other; it carries
 -- the rest. It rests on the promises of `read`, `write_record` and `names` alone. Assumes nothing.
+use Rattle.std.specs.Prelude.{Result, Ok}
 use mathlib.Core.Bool.{Bool}
 use mathlib.Core.List.{List}
 use mathlib.Core.Path.{◌≡◌, sym, ap, ◌∙◌, subst}
 use Prim.Native.Nat.{ℕ, ◌≤◌}
 use lib.ListN.{length, take}
 use Rattle.cd.specs.Diagrams.{Stored, limit}
+use Rattle.cd.specs.declared.CdError.{CdError}
 use Rattle.cd.specs.declared.Node.{Node}
 use Rattle.cd.proofs.Decided.{decides_same}
 use Rattle.filing.specs.Records.{record_length}
 use Rattle.group_names.specs.declared.Groups.{Groups}
 use Rattle.lexicon.specs.Files.{Files}
-use Rattle.lexicon.specs.Reads.{Reads, Marks}
+use Rattle.lexicon.specs.Reads.{Reads}
 use Rattle.lexicon.specs.declared.Filed.{Filed}
 use Rattle.lexicon.specs.declared.Reading.{Reading}
-use Rattle.lexicon.proofs.Answers.{answers}
+use Rattle.lexicon.proofs.Answers.{shown}
 use Rattle.lexicon.proofs.Demand3.{no_false_match}
 use Rattle.lexicon.proofs.Fileable.{accepted_diagram, accepted_kept, accepted_tidy}
 use Rattle.lexicon.proofs.Marks.{marked_once}
 use Rattle.lexicon_names.specs.NamesText.{NamesText}
 use Rattle.lexicon_names.proofs.OneAnswer.{told_of}
 use Rattle.parse.specs.Reading.{Accepted, read}
-use Rattle.parse.specs.declared.Read.{Read}
 use Rattle.parse.proofs.Outcomes.{accepted_few}
 use Rattle.tables.specs.Diagrams.{diagram}
 use Rattle.lexicon_articles.specs.Articles.{without_loops, edge_count, SameNames, SameArticle}
@@ -31,12 +32,11 @@ use Rattle.lexicon_articles.proofs.EdgeCount.{edges_carried, edges_answered}
 use Rattle.lexicon_articles.proofs.Names as names
 
 -- the count of an answered diagram is that of the stored edges
-pub edges_counted : {wish : Bool} {text : List ℕ} {ns : List Node} {es : List Stored} {r : Reading} → read wish text ≡ Accepted ns es → Reads wish text r → edge_count r.read.cd ≡ length (without_loops es)
-edges_counted {wish} {text} {ns} {es} {r} h k =
-    edges_answered r.read.cd ns es (ap (λ (x : Read). x.cd) (answers h k)) (accepted_few wish text ns es h) (accepted_tidy wish text ns es h)
+pub edges_counted : {wish : Bool} {text : List ℕ} {ns : List Node} {es : List Stored} {p : Reading} → read wish text ≡ Accepted ns es → Reads wish text (Ok p) → edge_count p.cd ≡ length (without_loops es)
+edges_counted {wish} {text} {ns} {es} {p} h k = edges_answered p.cd ns es (shown h k).0 (accepted_few wish text ns es h) (accepted_tidy wish text ns es h)
 
 -- two wishes, and two texts that are accepted so; two buffers that 12 does not refuse, before and after, whose records are the same
-module _ (v w : Bool) (s t : List ℕ) (ns ms : List Node) (es fs : List Stored) (a a' b b' : List ℕ) (x y : Filed)
+module _ (v w : Bool) (s t : List ℕ) (ns ms : List Node) (es fs : List Stored) (a a' b b' : List ℕ) (x y : Result Filed CdError)
     (accepted-s : read v s ≡ Accepted ns es) (accepted-t : read w t ≡ Accepted ms fs)
     (long-a : record_length limit ≤ length a) (long-b : record_length limit ≤ length b)
     (files-s : Files v s a a' x) (files-t : Files w t b b' y)
@@ -47,25 +47,23 @@ module _ (v w : Bool) (s t : List ℕ) (ns ms : List Node) (es fs : List Stored)
       carried ns ms es fs f (accepted_kept v s ns es accepted-s) (accepted_kept w t ms fs accepted-t) (accepted_tidy v s ns es accepted-s) (accepted_tidy w t ms fs accepted-t) c
 
   -- "the same minimal mark"
-  pub same_mark : {p q : Reading} → Reads v s p → Reads w t q → p.minimal ≡ q.minimal
+  pub same_mark : {p q : Reading} → Reads v s (Ok p) → Reads w t (Ok q) → p.minimal ≡ q.minimal
   same_mark {p} {q} rs rt =
-      let own : Marks (Accepted ns es) p.minimal = subst (λ z. Marks z p.minimal) accepted-s rs.minimal in
-      let others : Marks (Accepted ms fs) q.minimal = subst (λ z. Marks z q.minimal) accepted-t rt.minimal in
-      marked_once (Accepted ms fs) p.minimal q.minimal (decides_same (minimal_carried diagrams_carried) (minimal_carried (turned diagrams_carried)) own) others
+      marked_once (Accepted ms fs) p.minimal q.minimal (decides_same (minimal_carried diagrams_carried) (minimal_carried (turned diagrams_carried)) (shown accepted-s rs).1) (shown accepted-t rt).1
 
   -- "the same number of stored edges between different nodes"
   pub same_edges : length (without_loops es) ≡ length (without_loops fs)
   same_edges = edges_carried diagrams_carried (accepted_tidy v s ns es accepted-s) (accepted_tidy w t ms fs accepted-t)
 
   -- "the same names and orders as a multiset, unless both are refused with 21"
-  pub same_names : {r g : Groups} → NamesText v s r → NamesText w t g → SameNames r g
+  pub same_names : {r g : Result Groups CdError} → NamesText v s r → NamesText w t g → SameNames r g
   unfolding diagram
   same_names rs rt =
       names.same_names diagrams_carried (accepted_few v s ns es accepted-s) (accepted_few w t ms fs accepted-t)
       (λ i j h k ne. ((accepted_diagram w t ms fs accepted-t).edges i j h k ne).den_pos) (told_of rs accepted-s) (told_of rt accepted-t)
 
   -- EQUAL RECORDS, EQUAL ARTICLES
-  pub equal_articles : {p q : Reading} {r g : Groups} → Reads v s p → NamesText v s r → Reads w t q → NamesText w t g → SameArticle p r q g
+  pub equal_articles : {p q : Reading} {r g : Result Groups CdError} → Reads v s (Ok p) → NamesText v s r → Reads w t (Ok q) → NamesText w t g → SameArticle p r q g
   equal_articles ps rs qt gt = record {
     mark = same_mark ps qt;
     edges = edges_counted accepted-s ps ∙ same_edges ∙ sym (edges_counted accepted-t qt);

@@ -1,5 +1,6 @@
 -- A renumbering takes each component of one diagram to a component of the other, no two to one, and the names that fit it with it; a component has one name only. So
 -- the lists of names are one multiset, and where one diagram has a component that no name fits, so has the other. Assumes nothing.
+use Rattle.std.specs.Prelude.{Result}
 use mathlib.Core.Bool.{Bool, true, false, false≢true}
 use mathlib.Core.List.{List}
 use mathlib.Core.Logic.{◌≢◌}
@@ -11,6 +12,7 @@ use lib.ListN.{length, get_or}
 use Rattle.cd.specs.Diagrams.{Stored, is_joined, limit}
 use Rattle.cd.specs.Minimal.{Linked}
 use Rattle.cd.specs.Paths.{Path}
+use Rattle.cd.specs.declared.CdError.{CdError}
 use Rattle.cd.specs.declared.Node.{Node}
 use Rattle.cd.proofs.Arrays.{get_or_padded}
 use Rattle.group_names.specs.Named.{Named, Nameless, Lowest, Lists, Names, blank, listing}
@@ -125,8 +127,8 @@ module _ {ns ms : List Node} {es fs : List Stored} (c : Carried ns es ms fs) (fe
           shown gs i (omega (arith, lists_short ls)) ∙ ap₂ (λ x y. (x, y)) name order ∙ sym (shown hs (g i) (omega (arith, lists_short lt)))
 
   -- THE SAME NAMES, OR BOTH REFUSED
-  pub same_names : {r t : Groups} → Names (length ns) es r → Names (length ms) fs t → SameNames r t
-  same_names (naming.named ls e) (naming.named lt q) = subst₂ SameNames (sym e) (sym q) (named refl refl (same_multiset ls lt))
+  pub same_names : {r t : Result Groups CdError} → Names (length ns) es r → Names (length ms) fs t → SameNames r t
+  same_names (naming.named ls e) (naming.named lt q) = named e q (same_multiset ls lt)
   same_names (naming.named ls e) (naming.nameless h lt low none q) = absurd (none_nameless c ls h none)
   same_names (naming.nameless h ls low none e) (naming.named lt q) = absurd (none_nameless (turned c) lt h none)
   same_names (naming.nameless h ls low none e) (naming.nameless k lt low' none' q) = nameless e q

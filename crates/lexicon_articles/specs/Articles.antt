@@ -1,17 +1,17 @@
 -- Document 02, ticket K11: "any two accepted texts with equal filing records have the same minimal mark, the same number of stored edges between different nodes,
 -- and the same names and orders as a multiset, unless both are refused with 21, whose nodes may differ. Loops may differ between the two and make no difference."
-use Rattle.std.specs.Prelude.{List, [], ◌∷◌, ◌≡◌, ℕ, ◌<◌, ltb, eqb, get_or}
+use Rattle.std.specs.Prelude.{List, [], ◌∷◌, ◌≡◌, ℕ, ◌<◌, ltb, eqb, get_or, Result, Ok, Err}
 use Rattle.float.specs.Pick.{pick}
 use Rattle.cd.specs.Diagrams.{Stored, none, place_of}
 use Rattle.cd.specs.declared.Cd.{Cd}
+use Rattle.cd.specs.declared.CdError.{CdError}
 use Rattle.cd.specs.declared.CdError.TheVariants.{NoName}
 use Rattle.filing.specs.Counts.{pair_count}
 use Rattle.filing.specs.Numberings.{Numbering}
-use Rattle.group_names.specs.Named.{blank, refusal}
+use Rattle.group_names.specs.Named.{blank}
 use Rattle.group_names.specs.declared.Groups.{Groups}
 use Rattle.group_names.specs.declared.Name.{Name}
 use Rattle.lexicon.specs.declared.Reading.{Reading}
-use Rattle.parse.specs.declared.Answer.TheVariants as said
 
 -- ---- "stored edges between different nodes"
 
@@ -37,12 +37,12 @@ abbrev pub name_at : Groups → ℕ → Name × ℕ
 name_at r i = ((get_or r.at i blank).name, (get_or r.at i blank).order)
 
 -- "unless both are refused with 21, whose nodes may differ"
-pub data SameNames (r t : Groups) : Type 0 where
-  named : r.answer ≡ said.Accepted → t.answer ≡ said.Accepted → SameMultiset r.count (name_at r) t.count (name_at t) → SameNames r t
-  nameless : {c d : ℕ} → r ≡ refusal (NoName c) → t ≡ refusal (NoName d) → SameNames r t
+pub data SameNames (r t : Result Groups CdError) : Type 0 where
+  named : {g h : Groups} → r ≡ Ok g → t ≡ Ok h → SameMultiset g.count (name_at g) h.count (name_at h) → SameNames r t
+  nameless : {c d : ℕ} → r ≡ Err (NoName c) → t ≡ Err (NoName d) → SameNames r t
 
 -- ---- what an article shows of a text: of the answers of `read` and `names` to one, and to another
-pub record SameArticle (p : Reading) (r : Groups) (q : Reading) (t : Groups) : Type 0 where
+pub record SameArticle (p : Reading) (r : Result Groups CdError) (q : Reading) (t : Result Groups CdError) : Type 0 where
   pub mark : p.minimal ≡ q.minimal
-  pub edges : edge_count p.read.cd ≡ edge_count q.read.cd
+  pub edges : edge_count p.cd ≡ edge_count q.cd
   pub names : SameNames r t

@@ -13,14 +13,16 @@ use borrow.Author.Tests.{ltb-true, leb-true, le-leb, eqb-true, eqb-false, eq-eqb
 use lib.Dec.{eqb, ltb, leb}
 use lib.ListN.{length, get_or}
 use Rattle.float.specs.Pick.{pick}
+use Rattle.std.specs.Prelude.{Result, Ok, Err}
 use Rattle.cd.specs.Diagrams.{Stored, is_joined}
 use Rattle.cd.specs.Minimal.{Linked}
 use Rattle.cd.specs.Paths.{Path, here, on}
+use Rattle.cd.specs.declared.CdError.{CdError}
 use Rattle.cd.specs.declared.CdError.TheVariants.{NoName}
 use Rattle.cd.specs.declared.Node.{Node}
 use Rattle.filing.specs.Fractions.{SameFraction}
 use Rattle.filing.proofs.Numberings.{pigeonhole}
-use Rattle.group_names.specs.Named.{over1, Named, Lowest, Nameless, Lists, none, passed, listed, group, listing, refusal, named, nameless}
+use Rattle.group_names.specs.Named.{over1, Named, Lowest, Nameless, Lists, none, passed, listed, group, listing, named, nameless}
 use Rattle.group_names.specs.Names.{is_name, rank, entry}
 use Rattle.group_names.specs.declared.Group.{Group}
 use Rattle.group_names.specs.declared.Groups.{Groups}
@@ -289,13 +291,13 @@ module _ (n : ℕ) (es : List Stored) where
 
 -- ---- of a text
 
-module _ {wish : Bool} {text : List ℕ} {ns : List Node} {es : List Stored} {r : Groups} (f : Found) (h : read wish text ≡ Accepted ns es) where
-  pub names_by : every (is_told (length ns) es f) (length ns) ≡ true → r ≡ listing (groups_below (length ns) es f (length ns)) → NamesText wish text r
+module _ {wish : Bool} {text : List ℕ} {ns : List Node} {es : List Stored} {r : Result Groups CdError} (f : Found) (h : read wish text ≡ Accepted ns es) where
+  pub names_by : every (is_told (length ns) es f) (length ns) ≡ true → r ≡ Ok (listing (groups_below (length ns) es f (length ns))) → NamesText wish text r
   names_by t e = told h (named (told_lists (length ns) es f (length ns) (le_refl (length ns)) t) e)
 
   -- the components below c have names; no stored edge leads from c or a greater node to a lower one; and what joins c to u is no whole number
   pub nameless_by : (c u : ℕ) → ltb c (length ns) ≡ true → ltb u (length ns) ≡ true → every (is_told (length ns) es f) c ≡ true → closed (length ns) es (leb c) ≡ true
-      → is_joined es c u ≡ true → eqb c u ≡ false → ((m : ℕ) → SameFraction (joint es c u) (over1 m) → ⊥) → r ≡ refusal (NoName c) → NamesText wish text r
+      → is_joined es c u ≡ true → eqb c u ≡ false → ((m : ℕ) → SameFraction (joint es c u) (over1 m) → ⊥) → r ≡ Err (NoName c) → NamesText wish text r
   nameless_by c u bc bu t cl s ne not e =
       let hc = ltb-true c (length ns) bc in
       let hu = ltb-true u (length ns) bu in
@@ -304,7 +306,7 @@ module _ {wish : Bool} {text : List ℕ} {ns : List Node} {es : List Stored} {r 
       told h (nameless hc (told_lists (length ns) es f c (omega arith) t) low (λ x d. let (m, w) = named_whole d here step (eqb-false c u ne) in not m w) e)
 
   -- all nodes are one component, and no name of as many nodes can be placed there
-  pub nameless_by_search : ltb 2 (length ns) ≡ true → every (leads_to (length ns) es f 0 (length ns)) (length ns) ≡ true → every (is_unfit_at (length ns) es) 9 ≡ true → r ≡ refusal (NoName 0) → NamesText wish text r
+  pub nameless_by_search : ltb 2 (length ns) ≡ true → every (leads_to (length ns) es f 0 (length ns)) (length ns) ≡ true → every (is_unfit_at (length ns) es) 9 ≡ true → r ≡ Err (NoName 0) → NamesText wish text r
   nameless_by_search b t u e =
       let n = length ns in
       let three = ltb-true 2 n b in

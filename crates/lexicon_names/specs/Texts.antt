@@ -1,8 +1,9 @@
 -- Document 02, K4's texts to try, as a list that goes on from lexicon/specs/Texts.antt, which stands below this call. proofs/TextsRight.antt proves each.
-use Rattle.std.specs.Prelude.{ℕ, false, List, [], ◌∷◌}
+use Rattle.std.specs.Prelude.{ℕ, false, List, [], ◌∷◌, Result, Ok, Err}
 use Prim.Native.String.{String}
+use Rattle.cd.specs.declared.CdError.{CdError}
 use Rattle.cd.specs.declared.CdError.TheVariants.{NoName}
-use Rattle.group_names.specs.Named.{group, listing, refusal}
+use Rattle.group_names.specs.Named.{group, listing}
 use Rattle.group_names.specs.declared.Group.{Group}
 use Rattle.group_names.specs.declared.Groups.{Groups}
 use Rattle.group_names.specs.declared.Name.TheVariants.{A, B, D, F4, I2}
@@ -12,17 +13,17 @@ use Rattle.lexicon_names.specs.NamesText.{NamesText}
 -- a text, and its names or what refuses them
 pub record Entry : Type 0 where
   pub text : String
-  pub names : Groups
+  pub names : Result Groups CdError
 
 abbrev pub RightEntry : Entry → Type 0
 RightEntry e = NamesText false (ascii e.text) e.names
 
 abbrev named : String → List Group → Entry
-named text gs = record { text = text; names = listing gs }
+named text gs = record { text = text; names = Ok (listing gs) }
 
 -- 21 and the node
 abbrev nameless : String → ℕ → Entry
-nameless text c = record { text = text; names = refusal (NoName c) }
+nameless text c = record { text = text; names = Err (NoName c) }
 
 unfoldable pub texts : List Entry
 texts =

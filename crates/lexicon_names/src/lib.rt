@@ -3,20 +3,13 @@
 
 ghost use Rattle.lexicon_names.specs.NamesText.{NamesText};
 
+use cd::CdError;
 use group_names::Groups;
-use parse::Answer;
 
-// The name and the group's order of each component of a text's diagram.
-pub fn names(text: &[u8], wish: bool) -> Groups
+// The name and the group's order of each component of a text's diagram, or what refuses them.
+pub fn names(text: &[u8], wish: bool) -> Result<Groups, CdError>
     ensures { NamesText wish text.now result }
 {
-    let r = builder::parse(text, wish);
-    let a = r.answer;
-    match a {
-        Answer::Accepted => {
-            let cd = r.cd;
-            group_search::groups(cd)
-        }
-        Answer::Refused(e) => group_search::refusal(e),
-    }
+    let cd = builder::parse(text, wish)?;
+    group_search::groups(cd)
 }

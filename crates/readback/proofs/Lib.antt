@@ -1,4 +1,5 @@
 -- The laws of reading a record back: numbers, nodes and pairs in their places; what bytes spell, and what a record is read back as.
+mod Every
 mod Numbers
 mod Nodes
 mod PairPlaces

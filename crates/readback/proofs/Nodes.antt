@@ -1,8 +1,8 @@
 -- When a kind and 64 bits are a node's, and the node that they are, kind by kind; and the nodes of a record in an array, one after another. Assumes nothing.
 use mathlib.Core.Bool.{false, not}
 use mathlib.Core.List.{List, [], ◌∷◌, ◌++◌, map, map-append}
-use mathlib.Core.Logic.{◌⊎◌, inl, inr}
-use mathlib.Core.Path.{◌≡◌, refl, ◌∙◌}
+use mathlib.Core.Logic.{◌≢◌}
+use mathlib.Core.Path.{◌≡◌, refl, ap, ◌∙◌}
 use Prim.Native.Nat.{ℕ, ◌+◌, ◌*◌, ◌%◌, ◌^◌, ◌≤◌, ◌<◌}
 use native.Mathlib.Decide.{dec_lt}
 use native.Mathlib.Numerals.{add-one}
@@ -18,7 +18,8 @@ use Rattle.cd.specs.Minimal.{Decides}
 use Rattle.cd.specs.declared.Node.TheVariants.{Unringed, Ringed, Snub}
 use Rattle.cd.proofs.Arrays.{set_padded}
 use Rattle.filing.specs.Bytes.{blocks}
-use Rattle.filing.specs.Diagrams.{Node, IsNode}
+use Rattle.filing.specs.Diagrams.{IsNode}
+use Rattle.filing.specs.Diagrams as filing
 use Rattle.filing.specs.Readable.{number_at, node_at}
 use Rattle.filing.specs.Records.{node_length}
 use Rattle.filing.proofs.Bytes.{length_singles}
@@ -42,42 +43,46 @@ zero_no_nan : nan_bits binary64 0 ≡ false
 unfolding nan_bits
 zero_no_nan = refl
 
-module _ {kind : ℕ} (bits : ℕ) where
-  pub decides_unringed : kind ≡ 1 → Decides (IsNode (record { kind = kind; bits = bits })) (eqb bits 0)
-  decides_unringed k = record { only_when = λ e. holds (eqb-true bits 0 e); when = λ w. eq-eqb bits 0 (w.unringed k) }
+module _ (v : filing.Node) where
+  pub decides_unringed : v.kind ≡ 1 → Decides (IsNode v) (eqb v.bits 0)
+  decides_unringed k = record { only_when = λ e. holds (eqb-true v.bits 0 e); when = λ w. eq-eqb v.bits 0 (w.unringed k) }
     where
-      holds : bits ≡ 0 → IsNode (record { kind = kind; bits = bits })
+      holds : v.bits ≡ 0 → IsNode v
       holds e = record { kind_low = omega arith; kind_high = omega arith; bits_fit = omega arith; number = rw e zero_no_nan; unringed = λ _. e }
 
-  pub decides_valued : bits < 2 ^ 64 → (kind ≡ 2) ⊎ (kind ≡ 3) → Decides (IsNode (record { kind = kind; bits = bits })) (not (nan_bits binary64 bits))
-  decides_valued f k = record { only_when = λ e. holds k (not-true (nan_bits binary64 bits) e); when = λ w. rw w.number }
+  pub decides_valued : v.bits < 2 ^ 64 → 1 < v.kind → v.kind < 4 → Decides (IsNode v) (not (nan_bits binary64 v.bits))
+  decides_valued f low high = record { only_when = λ e. holds (not-true (nan_bits binary64 v.bits) e); when = λ w. rw w.number }
     where
-      holds : (kind ≡ 2) ⊎ (kind ≡ 3) → nan_bits binary64 bits ≡ false → IsNode (record { kind = kind; bits = bits })
-      holds (inl k) e = record { kind_low = omega arith; kind_high = omega arith; bits_fit = f; number = e; unringed = λ one. omega arith }
-      holds (inr k) e = record { kind_low = omega arith; kind_high = omega arith; bits_fit = f; number = e; unringed = λ one. omega arith }
+      holds : nan_bits binary64 v.bits ≡ false → IsNode v
+      holds e = record { kind_low = omega arith; kind_high = omega arith; bits_fit = f; number = e; unringed = λ one. omega arith }
 
-  pub decides_none : (kind ≡ 1 → ⊥) → (kind ≡ 2 → ⊥) → (kind ≡ 3 → ⊥) → Decides (IsNode (record { kind = kind; bits = bits })) false
-  decides_none a b c = decides_no (λ w. omega arith)
+  pub decides_none : (0 < v.kind → v.kind < 4 → ⊥) → Decides (IsNode v) false
+  decides_none h = decides_no (λ w. h (omega (arith, w.kind_low)) (omega (arith, w.kind_high)))
 
   -- ---- which node
 
-  pub node_unringed : kind ≡ 1 → Unringed ≡ node (record { kind = kind; bits = bits })
+  pub node_unringed : v.kind ≡ 1 → Unringed ≡ node v
   unfolding node
   node_unringed k = rw k
 
-  pub node_ringed : kind ≡ 2 → Ringed (of_bits binary64 bits) ≡ node (record { kind = kind; bits = bits })
+  pub node_ringed : v.kind ≡ 2 → Ringed (of_bits binary64 v.bits) ≡ node v
   unfolding node
   node_ringed k = rw k
 
-  pub node_snub : (kind ≡ 1 → ⊥) → (kind ≡ 2 → ⊥) → Snub (of_bits binary64 bits) ≡ node (record { kind = kind; bits = bits })
+  pub node_snub : v.kind ≢ 1 → v.kind ≢ 2 → Snub (of_bits binary64 v.bits) ≡ node v
   unfolding node
-  node_snub a b = rw (ne_eqb kind 1 a, ne_eqb kind 2 b)
+  node_snub a b = rw (ne_eqb v.kind 1 a, ne_eqb v.kind 2 b)
 
 -- ---- the nodes of a record
 
-pub node_read : (l : List ℕ) (i x : ℕ) → x ≡ number_at 8 l (2 + node_length * i) → ◌≡◌ {A = Node} (record { kind = get_or l (1 + node_length * i) 0; bits = x }) (node_at l i)
+-- kind and value bits as they are read
+pub kind_read : (l : List ℕ) (i : ℕ) → get_or l (1 + node_length * i) 0 ≡ (node_at l i).kind
 unfolding node_at
-node_read l i x e = let s : 2 + node_length * i ≡ 1 + node_length * i + 1 = omega arith in rw (e, s)
+kind_read l i = refl
+
+pub bits_read : (l : List ℕ) (i : ℕ) → number_at 8 l (2 + node_length * i) ≡ (node_at l i).bits
+unfolding node_at
+bits_read l i = let e : 2 + node_length * i ≡ 1 + node_length * i + 1 = omega arith in ap (number_at 8 l) e
 
 pub length_nodes_to : (l : List ℕ) (n : ℕ) → length (nodes_to l n) ≡ n
 unfolding nodes_to

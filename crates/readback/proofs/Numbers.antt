@@ -1,56 +1,43 @@
--- The number that bytes spell, byte by byte: the bytes of two parts spell the first part's number moved up by the second's bytes, and the second's. So a byte
--- more is a digit more, and the 8 bytes of a pair are two halves of 4. Assumes nothing.
+-- The number that bytes spell, byte by byte, and so as the library reads it. Assumes nothing.
+use Rattle.std.specs.Int.{w32, w64, from_be_bytes}
 use mathlib.Core.List.{List, [], ◌∷◌, ◌++◌}
-use mathlib.Core.Path.{◌≡◌, refl}
+use mathlib.Core.Path.{◌≡◌, refl, ap, ◌∙◌}
 use Prim.Native.Nat.{ℕ, zero, suc, ◌+◌, ◌*◌, ◌^◌, ◌≤◌, ◌<◌}
-use native.Mathlib.Nat.{pow-suc, pow-le-pow_right, zero-lt-suc}
 use native.Mathlib.Omega.{arith}
-use lib.Arith.{digits_lt, digits_div, digits_mod}
 use lib.ListN.{length, get_or, take, drop, length-append, length-drop}
 use lib.Pow.{pow-add}
-use lib.Seq.{length-take-le, take-suc, take-add, drop-drop, get_or-drop}
+use lib.Seq.{length-take-le, take_all, take-suc}
 use Rattle.filing.specs.Bytes.{value}
-use Rattle.filing.specs.Readable.{number_at, fraction_at}
-use Rattle.readback.specs.Steps.{halves}
+use Rattle.filing.specs.Readable.{number_at}
 
 value_append : (a b : List ℕ) → value (a ++ b) ≡ value a * 256 ^ length b + value b
 unfolding value
 value_append [] b = omega arith
 value_append (x ∷ a) b = rw (length-append a b, pow-add 256 (length a) (length b), value_append a b) (omega arith)
 
--- ---- a byte more
+-- a byte more
+more : (bs : List ℕ) (i j : ℕ) → j ≡ suc i → i < length bs → value (take i bs) * 256 + get_or bs i 0 ≡ value (take j bs)
+unfolding value
+more bs i j e h = rw (e, take-suc bs i 0 h, value_append (take i bs) (get_or bs i 0 ∷ [])) (omega arith)
 
-pub number_none : (l : List ℕ) (k : ℕ) → zero ≡ number_at zero l k
-unfolding number_at value
-number_none l k = refl
+none : (bs : List ℕ) → zero ≡ value (take 0 bs)
+unfolding value
+none bs = refl
 
-pub number_next : (l : List ℕ) (k i : ℕ) → k + i < length l → number_at i l k * 256 + get_or l (k + i) 0 ≡ number_at (suc i) l k
-unfolding number_at value
-number_next l k i h =
-    let inside : i < length (drop k l) = simp length-drop (omega arith) in
-    rw (take-suc (drop k l) i 0 inside, get_or-drop k l i 0, value_append (take i (drop k l)) (get_or l (k + i) 0 ∷ [])) (omega arith)
+module _ (l : List ℕ) (k : ℕ) where
+  pub four_read : k + 4 ≤ length l → from_be_bytes w32 (take 4 (drop k l)) ≡ number_at 4 l k
+  unfolding number_at
+  four_read h =
+      let bs = take 4 (drop k l) in
+      let long : length bs ≡ 4 = length-take-le 4 (drop k l) (simp length-drop (omega arith)) in
+      let next : (i j : ℕ) → j ≡ suc i → i < 4 → value (take i bs) * 256 + get_or bs i 0 ≡ value (take j bs) = λ i j e h. more bs i j e (omega arith) in
+      omega (arith, none bs, next 0 1 refl (omega arith), next 1 2 refl (omega arith), next 2 3 refl (omega arith), next 3 4 refl (omega arith)) ∙ ap value (take_all 4 bs (omega arith))
 
--- a digit more fits, before the eighth
-pub digit_fits : (x b i : ℕ) → x < 256 ^ i → b < 256 → i < 8 → x * 256 + b < 256 ^ 8
-digit_fits x b i h l m = let e : i ≤ 7 = omega arith in omega (arith, pow-le-pow_right (zero-lt-suc 255) e)
-
-pub digit_more : (x b i : ℕ) → x < 256 ^ i → b < 256 → x * 256 + b < 256 ^ suc i
-digit_more x b i h l = rw (pow-suc 256 i) (digits_lt h l)
-
-pub number_less : (l : List ℕ) → ((i : ℕ) → get_or l i 0 < 256) → (k w : ℕ) → k + w ≤ length l → number_at w l k < 256 ^ w
-number_less l low k zero h = rw (← number_none l k) (zero-lt-suc zero)
-number_less l low k (suc w) h = rw (← (number_next l k w (omega arith))) (digit_more _ _ w (number_less l low k w (omega arith)) (low (k + w)))
-
--- ---- two parts
-
-number_split : (l : List ℕ) (k w v : ℕ) → k + (w + v) ≤ length l → number_at (w + v) l k ≡ number_at w l k * 256 ^ v + number_at v l (k + w)
-unfolding number_at
-number_split l k w v h =
-    let long : length (take v (drop (k + w) l)) ≡ v = length-take-le v (drop (k + w) l) (simp length-drop (omega arith)) in
-    rw (take-add w v (drop k l), drop-drop w k l, value_append (take w (drop k l)) (take v (drop (k + w) l)), long)
-
-pub fraction_halves : (l : List ℕ) → ((i : ℕ) → get_or l i 0 < 256) → (k : ℕ) → k + 8 ≤ length l → fraction_at l k ≡ halves (number_at 8 l k)
-unfolding fraction_at
-fraction_halves l low k h =
-    let second : number_at 4 l (k + 4) < 256 ^ 4 = number_less l low (k + 4) 4 (omega arith) in
-    rw (number_split l k 4 4 h, digits_div (number_at 4 l k) second, digits_mod (number_at 4 l k) second)
+  pub eight_read : k + 8 ≤ length l → from_be_bytes w64 (take 8 (drop k l)) ≡ number_at 8 l k
+  unfolding number_at
+  eight_read h =
+      let bs = take 8 (drop k l) in
+      let long : length bs ≡ 8 = length-take-le 8 (drop k l) (simp length-drop (omega arith)) in
+      let next : (i j : ℕ) → j ≡ suc i → i < 8 → value (take i bs) * 256 + get_or bs i 0 ≡ value (take j bs) = λ i j e h. more bs i j e (omega arith) in
+      omega (arith, none bs, next 0 1 refl (omega arith), next 1 2 refl (omega arith), next 2 3 refl (omega arith), next 3 4 refl (omega arith), next 4 5 refl (omega arith), next 5 6 refl (omega arith), next 6 7 refl (omega arith), next 7 8 refl (omega arith))
+      ∙ ap value (take_all 8 bs (omega arith))

@@ -2,9 +2,9 @@
 -- below pairs n is one pair's, by induction on n. Assumes nothing.
 use mathlib.Core.Logic.{⊎_elim}
 use mathlib.Core.Path.{◌≡◌, refl, ap}
-use Prim.Native.Nat.{ℕ, zero, suc, ◌+◌, ◌-◌, ◌*◌, ◌/◌, ◌≤◌, ◌<◌}
+use Prim.Native.Nat.{ℕ, zero, suc, ◌+◌, ◌-◌, ◌*◌, ◌/◌, ◌<◌}
 use native.Mathlib.Decide.{dec_lt}
-use native.Mathlib.Nat.{min-eq_left, max-eq_right, le_of_lt, le_of_suc-le-suc, eq-or-lt_of_le, not-suc-le-zero, mul-le-mul}
+use native.Mathlib.Nat.{min-eq_left, max-eq_right, le_of_lt, le_of_suc-le-suc, eq-or-lt_of_le, not-suc-le-zero}
 use native.Mathlib.Numerals.{sub-one}
 use native.Mathlib.Omega.{arith}
 use Rattle.filing.specs.Readable.{pair_place}
@@ -17,16 +17,6 @@ pairs n = n * (n - 1) / 2
 pub square_pairs : (n : ℕ) → (n * n - n) / 2 ≡ pairs n
 square_pairs zero = refl
 square_pairs (suc n) = simp sub-one (omega arith)
-
-pub square_above : (n : ℕ) → n ≤ n * n
-square_above zero = omega arith
-square_above (suc n) = omega arith
-
--- fewer nodes have fewer pairs
-pub square_fewer : (N n : ℕ) → n ≤ N → n * n - n ≤ N * N - N
-square_fewer N zero h = omega arith
-square_fewer zero (suc n) h = absurd (not-suc-le-zero h)
-square_fewer (suc N) (suc n) h = let l : n ≤ N = omega arith in omega (arith, mul-le-mul l l)
 
 next_pairs : (n : ℕ) → pairs (suc n) ≡ pairs n + n
 next_pairs zero = refl

@@ -5,12 +5,12 @@ use Prim.Native.Nat.{ℕ, zero, suc, ◌+◌, ◌*◌, ◌≤◌, ◌<◌}
 use mathlib.Core.Bool.{Bool, true, false, ◌||◌, or_assoc}
 use mathlib.Core.List.{List, [], ◌∷◌, ◌++◌, append_assoc, append-nil}
 use mathlib.Core.Logic.{⊎_elim}
-use mathlib.Core.Path.{◌≡◌, refl, sym, ap, ◌∙◌}
+use mathlib.Core.Path.{◌≡◌, refl, sym, ◌∙◌}
 use native.Mathlib.Nat.{le_refl}
 use native.Mathlib.Numerals.{add-one}
 use native.Mathlib.Omega.{arith}
 use borrow.Author.Tests.{ltb-false}
-use lib.ListN.{length, get_or, set, replicate, length-append}
+use lib.ListN.{length, set, replicate, length-append}
 use Rattle.float.specs.Pick.{pick}
 use Rattle.cd.specs.Diagrams.{Stored, joins, is_joined, none, between, limit, place_of}
 use Rattle.cd.specs.Edges.{is_two, edge_of}
@@ -18,13 +18,10 @@ use Rattle.cd.specs.declared.Edge.{Edge}
 use Rattle.cd.proofs.Arrays.{Same}
 use Rattle.cd.proofs.Stored.{joins_other, rank_joined, nothing_stored, stored}
 use Rattle.filing.specs.Bytes.{blocks}
-use Rattle.filing.specs.Readable.{number_at, fraction_at, pair_place}
-use Rattle.filing.specs.Records.{nodes_length, record_length}
+use Rattle.filing.specs.Readable.{fraction_at, pair_place}
 use Rattle.readback.specs.Spelled.{edge_at, row_to, edges_to}
-use Rattle.readback.specs.Steps.{halves, Shows}
+use Rattle.readback.specs.Steps.{Shows}
 use Rattle.readback.specs.declared.Edges.{Edges}
-use Rattle.readback.proofs.Numbers.{fraction_halves}
-use Rattle.readback.proofs.PairPlaces.{pairs, pair_below, place_rising}
 
 -- ---- blocks of edges: that none of them joins two nodes, and how many they are at most
 
@@ -133,9 +130,3 @@ module _ (N : ℕ) (l : List ℕ) (j : ℕ) where
   pub row_ends : edges_to N l j ++ row_to N l j j ≡ edges_to N l (j + 1)
   unfolding edges_to blocks
   row_ends = rw add-one
-
--- the halves of a pair's number are its edge
-pub edge_halves : (l : List ℕ) → ((k : ℕ) → get_or l k 0 < 256) → length l ≡ record_length limit → (i j : ℕ) → i < j → j < limit → (x : ℕ)
-    → x ≡ number_at 8 l (1 + nodes_length limit + 8 * (pairs j + i)) → edge_of (halves x) ≡ edge limit l i j
-edge_halves l small long i j rising low x e =
-    rw (e, place_rising limit i j rising) (ap edge_of (sym (fraction_halves l small _ (omega (arith, pair_below limit i j rising low)))))

@@ -1,7 +1,7 @@
 // A filing record read back to its diagram: well laid out, then the smallest.
 #![tactic(auto)]
 
-ghost use Rattle.std.specs.Prelude.{not, map, ◌≡◌, ◌+◌, ◌*◌, ◌<◌, ◌≤◌, length};
+ghost use Rattle.std.specs.Prelude.{not, map, ◌≡◌, ◌+◌, ◌*◌, ◌<◌, ◌≤◌, length, take, drop};
 ghost use Rattle.std.specs.Float.{binary64};
 ghost use Rattle.std.specs.Float.Ieee.{nan_bits};
 ghost use Rattle.cd.specs.Arrays.{padded};
@@ -10,29 +10,44 @@ ghost use Rattle.cd.specs.Edges.{edge_of};
 ghost use Rattle.cd.specs.Minimal.{Decides};
 ghost use Rattle.cd.specs.declared.Node.TheVariants.{Unringed};
 ghost use Rattle.filing.specs.Diagrams.{IsNode, IsDiagram};
-ghost use Rattle.filing.specs.Readable.{number_at, spelled as the_spelled};
+ghost use Rattle.filing.specs.Readable.{node_at, fraction_at, spelled as the_spelled};
 ghost use Rattle.filing.specs.Records.{record_length};
 ghost use Rattle.parse.specs.Reading.{Reading, answer};
 ghost use Rattle.tables.specs.Tables.{IsPair, IsKept};
 ghost use Rattle.readback.specs.ReadBack.{ReadBack};
 ghost use Rattle.readback.specs.Spelled.{node, nodes_to, nodes_in, edges_to, edges_in};
-ghost use Rattle.readback.specs.Steps.{NodesTo, PairsTo, halves, Shows};
+ghost use Rattle.readback.specs.Steps.{NodesTo, PairsTo, Shows};
 
 use cd::{Cd, CdError, Edge, LIMIT, Node, PAIRS, Pair, Place};
 use records::{NODE, PAIRS_AT, RECORD};
 
-// The number in eight bytes at k, the highest first.
-fn number_at(s: &[u8], k: usize) -> u64
-    requires { k + 8 ≤ length s.now }
-    ensures { result ≡ number_at 8 s.now k }
+// The W bytes at k.
+fn bytes_at<const W: usize>(s: &[u8], k: usize) -> [u8; W]
+    requires { k + W ≤ length s.now }
+    ensures { result ≡ take W (drop k s.now) }
 {
-    let mut x: u64 = 0;
-    let mut i = 0;
-    while i < 8 {
-        x = x * 256 + s[k + i] as u64;
-        i += 1;
+    let mut bytes = [0; W];
+    bytes.copy_from_slice(&s[k..k + W]);
+    bytes
+}
+
+// The value bits of node i.
+fn bits_at(s: &[u8], i: usize) -> u64
+    requires { (i < limit) × (length s.now ≡ record_length limit) }
+    ensures { result ≡ (node_at s.now i).bits }
+{
+    u64::from_be_bytes(bytes_at(s, 2 + NODE * i))
+}
+
+// The edge whose numbers the eight bytes at k spell.
+fn edge_at(s: &[u8], k: usize) -> Edge
+    requires { k + 8 ≤ length s.now }
+    ensures { result ≡ edge_of (fraction_at s.now k) }
+{
+    Edge {
+        num: u32::from_be_bytes(bytes_at(s, k)),
+        den: u32::from_be_bytes(bytes_at(s, k + 4)),
     }
-    x
 }
 
 // Whether 64 bits are a double's that is not nan.
@@ -42,68 +57,40 @@ fn is_number(bits: u64) -> bool
     bits % 0x8000_0000_0000_0000 <= 0x7ff0_0000_0000_0000
 }
 
-fn is_node(kind: u8, bits: u64) -> bool
-    ensures { Decides (IsNode (record { kind = kind; bits = bits })) result }
+// Whether kind and value of node i are a node's.
+fn is_node(s: &[u8], i: usize) -> bool
+    requires { (i < limit) × (length s.now ≡ record_length limit) }
+    ensures { Decides (IsNode (node_at s.now i)) result }
 {
-    match kind {
+    let bits = bits_at(s, i);
+    match s[1 + NODE * i] {
         1 => bits == 0,
-        2 => is_number(bits),
-        3 => is_number(bits),
+        2 | 3 => is_number(bits),
         _ => false,
     }
 }
 
-// The edge whose numbers eight bytes spell.
-fn edge_of(x: u64) -> Edge
-    ensures { result ≡ edge_of (halves x) }
+// Whether the eight bytes at k spell an edge in lowest terms.
+fn is_pair(s: &[u8], k: usize) -> bool
+    requires { k + 8 ≤ length s.now }
+    ensures { Decides (IsPair (fraction_at s.now k)) result }
 {
-    Edge {
-        num: (x / 0x1_0000_0000) as u32,
-        den: (x % 0x1_0000_0000) as u32,
-    }
-}
-
-// Whether the number that a pair's bytes spell is that of an edge in lowest terms.
-fn is_pair(x: u64) -> bool
-    ensures { Decides (IsPair (halves x)) result }
-{
-    let edge = edge_of(x);
-    if edge.den == 0 {
-        return false;
-    }
-    if edge.num <= edge.den {
-        return false;
-    }
-    let least = cd::reduced(edge);
-    least.den == edge.den
+    let edge = edge_at(s, k);
+    0 < edge.den && edge.den < edge.num && cd::reduced(edge).den == edge.den
 }
 
 fn are_nodes(s: &[u8], n: usize) -> bool
     requires { (n ≤ limit) × (length s.now ≡ record_length limit) }
     ensures { Decides (NodesTo s.now n) result }
 {
-    let mut i = 0;
-    while i < n {
-        if !is_node(s[1 + NODE * i], number_at(s, 2 + NODE * i)) {
-            return false;
-        }
-        i += 1;
-    }
-    true
+    (0..n).all(|i| is_node(s, i))
 }
 
 fn are_pairs(s: &[u8], n: usize) -> bool
     requires { (n ≤ limit) × (length s.now ≡ record_length limit) }
     ensures { Decides (PairsTo limit s.now n) result }
 {
-    let mut k = 0;
-    while k < (n * n - n) / 2 {
-        if !is_pair(number_at(s, PAIRS_AT + 8 * k)) {
-            return false;
-        }
-        k += 1;
-    }
-    true
+    (0..(n * n - n) / 2).all(|k| is_pair(s, PAIRS_AT + 8 * k))
 }
 
 // Whether count, kinds, values and fractions are a diagram's.
@@ -112,20 +99,15 @@ fn is_spelled(s: &[u8]) -> bool
     ensures { Decides (IsKept limit (the_spelled limit s.now)) result }
 {
     let n = s[0] as usize;
-    if LIMIT < n {
-        return false;
-    }
-    if !are_nodes(s, n) {
-        return false;
-    }
-    are_pairs(s, n)
+    n <= LIMIT && are_nodes(s, n) && are_pairs(s, n)
 }
 
-fn node_of(kind: u8, bits: u64) -> Node
-    requires { IsNode (record { kind = kind; bits = bits }) }
-    ensures { result ≡ node (record { kind = kind; bits = bits }) }
+fn node_at(s: &[u8], i: usize) -> Node
+    requires { (i < limit) × (length s.now ≡ record_length limit) × IsNode (node_at s.now i) }
+    ensures { result ≡ node (node_at s.now i) }
 {
-    match kind {
+    let bits = bits_at(s, i);
+    match s[1 + NODE * i] {
         1 => Node::Unringed,
         2 => Node::Ringed(f64::from_bits(bits)),
         _ => Node::Snub(f64::from_bits(bits)),
@@ -136,15 +118,11 @@ fn read_nodes(s: &[u8], n: usize) -> [Place; LIMIT]
     requires { (n ≤ limit) × (length s.now ≡ record_length limit) × NodesTo s.now n }
     ensures { result ≡ padded (place Unringed) limit (map place (nodes_to s.now n)) }
 {
-    let blank = Place {
+    let mut out = [Place {
         node: Node::Unringed,
-    };
-    let mut out = [blank; LIMIT];
-    let mut i = 0;
-    while i < n {
-        let node = node_of(s[1 + NODE * i], number_at(s, 2 + NODE * i));
-        out[i] = Place { node: node };
-        i += 1;
+    }; LIMIT];
+    for i in 0..n {
+        out[i].node = node_at(s, i);
     }
     out
 }
@@ -157,24 +135,20 @@ pub struct Edges {
 }
 
 // The pairs of place j with the places before it, stored after those of the places before j.
-fn read_row(s: &[u8], j: usize, before: Edges) -> Edges
-    requires { (j < limit) × (length s.now ≡ record_length limit) × Shows (edges_to limit s.now j) before }
-    ensures { Shows (edges_to limit s.now (j + 1)) result }
+fn read_row(s: &[u8], j: usize, out: &mut Edges)
+    requires { (j < limit) × (length s.now ≡ record_length limit) × Shows (edges_to limit s.now j) out.old }
+    ensures { Shows (edges_to limit s.now (j + 1)) out.new }
 {
-    let mut e = before;
-    let mut i = 0;
-    while i < j {
-        let edge = edge_of(number_at(s, PAIRS_AT + 8 * (j * (j - 1) / 2 + i)));
+    for i in 0..j {
+        let edge = edge_at(s, PAIRS_AT + 8 * (j * (j - 1) / 2 + i));
         if !cd::eq_two(edge) {
-            e.count += 1;
-            e.pairs[cd::pair_place(i, j)] = Pair {
-                rank: e.count as u32,
-                edge: edge,
+            out.count += 1;
+            out.pairs[cd::pair_place(i, j)] = Pair {
+                rank: out.count as u32,
+                edge,
             };
         }
-        i += 1;
     }
-    e
 }
 
 fn read_edges(s: &[u8], n: usize) -> Edges
@@ -185,17 +159,14 @@ fn read_edges(s: &[u8], n: usize) -> Edges
         rank: 0,
         edge: Edge { num: 0, den: 0 },
     };
-    let mut e = Edges {
+    let mut out = Edges {
         pairs: [none; PAIRS],
         count: 0,
     };
-    let mut j = 0;
-    while j < n {
-        let next = read_row(s, j, e);
-        e = next;
-        j += 1;
+    for j in 0..n {
+        read_row(s, j, &mut out);
     }
-    e
+    out
 }
 
 // The diagram that bytes spell.
@@ -205,13 +176,15 @@ fn spelled(s: &[u8]) -> Cd
 {
     let n = s[0] as usize;
     let nodes = read_nodes(s, n);
-    let e = read_edges(s, n);
-    let pairs = e.pairs;
+    let Edges {
+        pairs,
+        count: edges,
+    } = read_edges(s, n);
     Cd {
-        nodes: nodes,
+        nodes,
         count: n,
-        pairs: pairs,
-        edges: e.count,
+        pairs,
+        edges,
     }
 }
 
@@ -227,13 +200,10 @@ pub fn read(s: &[u8]) -> Result<Cd, CdError>
     }
     let cd = spelled(s);
     let t = tables::of(cd);
-    let n = t.count;
-    let laid = records::is_layout(s, &t.kinds, &t.bits, &t.pairs, n, search::plain());
-    if !laid {
+    if !records::is_layout(s, &t, search::plain()) {
         return Err(CdError::NoDiagram); // for a filler
     }
-    let smallest = search::is_smallest(&t.kinds, &t.bits, &t.pairs, n);
-    if !smallest {
+    if !search::is_smallest(&t) {
         return Err(CdError::NotSmallest);
     }
     Ok(cd)

@@ -1,10 +1,12 @@
 -- On a shelf every place before the one where bisection ends is less than the record, and none from there on is, because every place is greater than each before it:
 -- so what bisection finds is what the shelf holds. Assumes nothing.
+use Rattle.std.specs.Prelude.{Result}
 use mathlib.Core.List.{List}
 use mathlib.Core.Path.{◌≡◌, sym, ◌∙◌, subst}
 use Prim.Native.Nat.{ℕ, suc, ◌≤◌, ◌<◌}
 use native.Mathlib.Nat.{le_refl}
 use native.Mathlib.Omega.{arith}
+use Rattle.cd.specs.declared.CdError.{CdError}
 use Rattle.filing.specs.Bytes.{◌≼◌}
 use Rattle.filing.specs.Records.{record_length}
 use Rattle.filing.proofs.Order.{≼_antisym, ≼_trans}
@@ -64,7 +66,7 @@ module _ {N : ℕ} {l : List ℕ} {n : ℕ} {x : List ℕ} (all : RightTo N l n)
 
 -- ---- what it finds
 
-module _ {N : ℕ} {file x : List ℕ} {r : Found} where
+module _ {N : ℕ} {file x : List ℕ} {r : Result Found CdError} where
   -- ON A SHELF BISECTION FINDS WHAT `find` ANSWERS
   pub bisects_finds : {n : ℕ} → Shelf N file n → Bisects N file x r → Finds N file x r
   bisects_finds s (unread b h) = finds.refused (finds.unread b) h

@@ -1,23 +1,20 @@
 -- Given a record that can be read, finding and adding refuse a file with 18 or 19 exactly as the check does; and in a file that the check accepts, bisection
 -- answers what finding does. Of every answer that the promises allow. Assumes nothing.
+use Rattle.std.specs.Prelude.{Result, Ok, Err}
 use mathlib.Core.List.{List}
 use mathlib.Core.Logic.{◌↔◌}
-use mathlib.Core.Path.{◌≡◌, refl, sym, ap, ◌∙◌, subst}
+use mathlib.Core.Path.{◌≡◌, refl, sym, ◌∙◌, subst}
 use Prim.Native.Nat.{ℕ}
 use native.Mathlib.Omega.{arith}
 use Rattle.cd.specs.declared.CdError.{CdError}
 use Rattle.cd.specs.declared.CdError.TheVariants.{ShortBuffer, ShelfLength, ShelfPlace, OnShelf}
 use Rattle.filing.specs.Readable.{Readable}
-use Rattle.lexicon.proofs.Answers.{apart, alike}
-use Rattle.parse.specs.declared.Answer.TheVariants as said
-use Rattle.shelf.specs.Adds.{not_added, Adds}
+use Rattle.shelf.specs.Adds.{Adds}
 use Rattle.shelf.specs.Adds as adds
 use Rattle.shelf.specs.Bisects.{Bisects}
 use Rattle.shelf.specs.Checks.{Wrong, Checks, wrong}
 use Rattle.shelf.specs.Finds.{Refuses, unread, unsound, Finds}
 use Rattle.shelf.specs.Finds as finds
-use Rattle.shelf.specs.declared.Added.{Added}
-use Rattle.shelf.specs.declared.Checked.{Checked}
 use Rattle.shelf.specs.declared.Found.{Found}
 use Rattle.shelf.proofs.Bisected.{bisects_finds}
 use Rattle.shelf.proofs.Once.{checks_once, finds_once, adds_once}
@@ -37,9 +34,9 @@ not_12 : {e : CdError} → OfFile e → ShortBuffer ≡ e → ⊥
 not_12 of_18 h = let z : ◌≡◌ {A = ℕ} 0 1 = (cc) in omega arith
 not_12 of_19 h = let z : ◌≡◌ {A = ℕ} 0 1 = (cc) in omega arith
 
-module _ {N : ℕ} {file x : List ℕ} {c : Checked} (check : Checks N file c) where
+module _ {N : ℕ} {file x : List ℕ} {c : Result ℕ CdError} (check : Checks N file c) where
   -- IN A FILE THAT THE CHECK ACCEPTS, BISECTION ANSWERS WHAT FINDING DOES
-  pub bisect_as_find : {r s : Found} → c.answer ≡ said.Accepted → Finds N file x r → Bisects N file x s → r ≡ s
+  pub bisect_as_find : {n : ℕ} {r s : Result Found CdError} → c ≡ Ok n → Finds N file x r → Bisects N file x s → r ≡ s
   bisect_as_find a find bisect = finds_once find (bisects_finds (checked_right check a) bisect)
 
   module _ (readable : Readable N x) where
@@ -47,25 +44,25 @@ module _ {N : ℕ} {file x : List ℕ} {c : Checked} (check : Checks N file c) w
     wrong_of (unread b) = absurd (refused_unreadable b readable)
     wrong_of (unsound r w) = w
 
-    answered : {e : CdError} → Wrong N file e → c.answer ≡ said.Refused e
-    answered w = ap (λ (y : Checked). y.answer) (checks_once check (wrong w refl))
+    answered : {e : CdError} → Wrong N file e → c ≡ Err e
+    answered w = checks_once check (wrong w refl)
 
     -- FINDING REFUSES A FILE AS THE CHECK DOES
-    pub find_refuses : {r : Found} (e : CdError) → Finds N file x r → (r.answer ≡ said.Refused e) ↔ (c.answer ≡ said.Refused e)
+    pub find_refuses : {r : Result Found CdError} (e : CdError) → Finds N file x r → (r ≡ Err e) ↔ (c ≡ Err e)
     find_refuses e find = (
       λ h. answered (wrong_of (found_refused e find h)),
-      λ h. ap (λ (y : Found). y.answer) (finds_once find (finds.refused (unsound readable (checked_wrong e check h)) refl)),
+      λ h. finds_once find (finds.refused (unsound readable (checked_wrong e check h)) refl),
     )
 
-    file_wrong : {r : Added} {out out' : List ℕ} {e : CdError} → OfFile e → Adds N file x out out' r → r.answer ≡ said.Refused e → Wrong N file e
-    file_wrong {e = e} of (adds.refused {e = d} w h k) a = subst (Wrong N file) (alike d e (sym (ap (λ (y : Added). y.answer) h) ∙ a)) (wrong_of w)
-    file_wrong {e = e} of (adds.present {p = p} s q h k) a = absurd (not_20 of (alike (OnShelf p) e (sym (ap (λ (y : Added). y.answer) h) ∙ a)))
-    file_wrong {e = e} of (adds.short s q m h k) a = absurd (not_12 of (alike ShortBuffer e (sym (ap (λ (y : Added). y.answer) h) ∙ a)))
-    file_wrong {e = e} of (adds.added s q m h k) a = absurd (apart e (sym (ap (λ (y : Added). y.answer) h) ∙ a))
+    file_wrong : {r : Result ℕ CdError} {out out' : List ℕ} {e : CdError} → OfFile e → Adds N file x out out' r → r ≡ Err e → Wrong N file e
+    file_wrong {e = e} of (adds.refused {e = d} w h k) a = let z = sym h ∙ a in let q : d ≡ e = cc in subst (Wrong N file) q (wrong_of w)
+    file_wrong {e = e} of (adds.present {p = p} s q h k) a = let z = sym h ∙ a in let f : OnShelf p ≡ e = cc in absurd (not_20 of f)
+    file_wrong {e = e} of (adds.short s q m h k) a = let z = sym h ∙ a in let f : ShortBuffer ≡ e = cc in absurd (not_12 of f)
+    file_wrong {e = e} of (adds.added s q m h k) a = let z = sym h ∙ a in cc
 
     -- AND SO DOES ADDING
-    pub add_refuses : {r : Added} {out out' : List ℕ} (e : CdError) → OfFile e → Adds N file x out out' r → (r.answer ≡ said.Refused e) ↔ (c.answer ≡ said.Refused e)
-    add_refuses {out = out} e of add = (λ h. answered (file_wrong of add h), λ h. ap (λ (y : Added). y.answer) (adds_once add (untouched h)).0)
+    pub add_refuses : {r : Result ℕ CdError} {out out' : List ℕ} (e : CdError) → OfFile e → Adds N file x out out' r → (r ≡ Err e) ↔ (c ≡ Err e)
+    add_refuses {out = out} e of add = (λ h. answered (file_wrong of add h), λ h. (adds_once add (untouched h)).0)
       where
-        untouched : c.answer ≡ said.Refused e → Adds N file x out out (not_added e)
+        untouched : c ≡ Err e → Adds N file x out out (Err e)
         untouched h = adds.refused (unsound readable (checked_wrong e check h)) refl refl

@@ -1,5 +1,5 @@
 -- The promise of `bisect`, for every file: what bisection finds in it, without 19. On a shelf that is what `find` answers (proofs/Bisected.antt).
-use Rattle.std.specs.Prelude.{true, false, List, ◌≡◌, ℕ, suc, ◌+◌, ◌-◌, ◌*◌, ◌/◌, ◌≤◌, ◌<◌, length}
+use Rattle.std.specs.Prelude.{true, false, List, ◌≡◌, ℕ, suc, ◌+◌, ◌-◌, ◌*◌, ◌/◌, ◌≤◌, ◌<◌, length, Result, Err}
 use Rattle.cd.specs.declared.CdError.{CdError}
 use Rattle.cd.specs.declared.CdError.TheVariants.{ShelfLength}
 use Rattle.filing.specs.Bytes.{◌≼◌}
@@ -8,7 +8,7 @@ use Rattle.filing.specs.Records.{record_length}
 use Rattle.parse.specs.Reading.{Refused}
 use Rattle.readback.specs.ReadBack.{ReadBack}
 use Rattle.shelf.specs.Checks.{NoMultiple}
-use Rattle.shelf.specs.Finds.{not_found, found_at}
+use Rattle.shelf.specs.Finds.{found_at}
 use Rattle.shelf.specs.Shelves.{◌≺◌, place_at, Present}
 use Rattle.shelf.specs.declared.Found.{Found}
 
@@ -28,8 +28,8 @@ pub record Bisected (N : ℕ) (file x : List ℕ) (n p : ℕ) : Type 0 where
   pub ends : Bisection N file x 0 n p
 
 -- whether the record is at the place where bisection ends, and that place, or what refuses it
-pub data Bisects (N : ℕ) (file x : List ℕ) (r : Found) : Type 0 where
-  unread : {e : CdError} → ReadBack N x (Refused e) → r ≡ not_found e → Bisects N file x r
-  no_multiple : Readable N x → NoMultiple N file → r ≡ not_found ShelfLength → Bisects N file x r
+pub data Bisects (N : ℕ) (file x : List ℕ) (r : Result Found CdError) : Type 0 where
+  unread : {e : CdError} → ReadBack N x (Refused e) → r ≡ Err e → Bisects N file x r
+  no_multiple : Readable N x → NoMultiple N file → r ≡ Err ShelfLength → Bisects N file x r
   met : {n p : ℕ} → Bisected N file x n p → Present N file n x p → r ≡ found_at true p → Bisects N file x r
   missed : {n p : ℕ} → Bisected N file x n p → (Present N file n x p → ⊥) → r ≡ found_at false p → Bisects N file x r

@@ -1,12 +1,10 @@
 -- The promise of `check`. Document 02, ticket K1: "A call checks a lent file"; "Each call refuses a file whose length is no multiple of 370 (18), then the first
 -- place that can't be read or isn't greater than the place before it (19, that place)".
-use Rattle.std.specs.Prelude.{List, ◌≢◌, ◌≡◌, ℕ, ◌*◌, ◌<◌, length}
+use Rattle.std.specs.Prelude.{List, ◌≢◌, ◌≡◌, ℕ, ◌*◌, ◌<◌, length, Result, Ok, Err}
 use Rattle.cd.specs.declared.CdError.{CdError}
 use Rattle.cd.specs.declared.CdError.TheVariants.{ShelfLength, ShelfPlace}
 use Rattle.filing.specs.Records.{record_length}
-use Rattle.parse.specs.declared.Answer.TheVariants as said
 use Rattle.shelf.specs.Shelves.{Right, RightTo, Shelf}
-use Rattle.shelf.specs.declared.Checked.{Checked}
 
 -- the length is no multiple of a place's
 abbrev pub NoMultiple : ℕ → List ℕ → Type 0
@@ -17,11 +15,7 @@ pub data Wrong (N : ℕ) (l : List ℕ) : CdError → Type 0 where
   no_multiple : NoMultiple N l → Wrong N l ShelfLength
   first_wrong : {n p : ℕ} → length l ≡ record_length N * n → p < n → RightTo N l p → (Right N l p → ⊥) → Wrong N l (ShelfPlace p)
 
--- how a refusal is answered: no place is counted
-abbrev pub not_shelf : CdError → Checked
-not_shelf e = record { answer = said.Refused e; places = 0 }
-
 -- how many places a shelf has, or what is wrong
-pub data Checks (N : ℕ) (l : List ℕ) (r : Checked) : Type 0 where
-  wrong : {e : CdError} → Wrong N l e → r ≡ not_shelf e → Checks N l r
-  right : {n : ℕ} → Shelf N l n → r ≡ record { answer = said.Accepted; places = n } → Checks N l r
+pub data Checks (N : ℕ) (l : List ℕ) (r : Result ℕ CdError) : Type 0 where
+  wrong : {e : CdError} → Wrong N l e → r ≡ Err e → Checks N l r
+  right : {n : ℕ} → Shelf N l n → r ≡ Ok n → Checks N l r

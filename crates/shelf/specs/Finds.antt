@@ -1,10 +1,9 @@
 -- The promise of `find`. Document 02, ticket K1: "a second says whether a record is on the shelf and at which place (from 0)"; "A record to be found or added is
 -- read first, with 13 and 14", and with ticket K5 22.
-use Rattle.std.specs.Prelude.{Bool, true, false, List, ◌≡◌, ℕ}
+use Rattle.std.specs.Prelude.{Bool, true, false, List, ◌≡◌, ℕ, Result, Ok, Err}
 use Rattle.cd.specs.declared.CdError.{CdError}
 use Rattle.filing.specs.Readable.{Readable}
 use Rattle.parse.specs.Reading.{Refused}
-use Rattle.parse.specs.declared.Answer.TheVariants as said
 use Rattle.readback.specs.ReadBack.{ReadBack}
 use Rattle.shelf.specs.Checks.{Wrong}
 use Rattle.shelf.specs.Shelves.{Shelf, Present, Absent}
@@ -20,14 +19,11 @@ pub record Sound (N : ℕ) (file x : List ℕ) (n : ℕ) : Type 0 where
   pub readable : Readable N x
   pub shelf : Shelf N file n
 
-abbrev pub not_found : CdError → Found
-not_found e = record { answer = said.Refused e; present = false; place = 0 }
-
-abbrev pub found_at : Bool → ℕ → Found
-found_at b p = record { answer = said.Accepted; present = b; place = p }
+abbrev pub found_at : Bool → ℕ → Result Found CdError
+found_at b p = Ok (record { present = b; place = p })
 
 -- the record's place, or the place where it would stand, or what refuses it
-pub data Finds (N : ℕ) (file x : List ℕ) (r : Found) : Type 0 where
-  refused : {e : CdError} → Refuses N file x e → r ≡ not_found e → Finds N file x r
+pub data Finds (N : ℕ) (file x : List ℕ) (r : Result Found CdError) : Type 0 where
+  refused : {e : CdError} → Refuses N file x e → r ≡ Err e → Finds N file x r
   present : {n p : ℕ} → Sound N file x n → Present N file n x p → r ≡ found_at true p → Finds N file x r
   absent : {n p : ℕ} → Sound N file x n → Absent N file n x p → r ≡ found_at false p → Finds N file x r

