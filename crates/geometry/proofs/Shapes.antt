@@ -1,12 +1,12 @@
 -- From what the code holds of a matrix and of mirrors to what the geometers' calls promise: case by case of the definitions. Assumes nothing.
-use Rattle.std.specs.Prelude.{Result, Ok, Err}
+use Rattle.std.specs.Prelude.{Result, Ok, Err, Some, None}
 use Prim.Native.Nat.{ℕ, ◌+◌, ◌*◌, ◌≤◌, ◌<◌}
 use mathlib.Core.Bool.{Bool, true, false, and-eq-true_iff}
 use mathlib.Core.List.{List}
 use mathlib.Core.Path.{◌≡◌, refl, sym, ap, ◌∙◌}
 use native.Mathlib.Omega.{arith}
-use borrow.Author.Tests.{leb-true, lt-ltb, le-ltb}
-use lib.Dec.{leb}
+use borrow.Author.Tests.{leb-true}
+use lib.Dec.{ltb, leb}
 use lib.Ieee.{Float, nan}
 use lib.ListN.{length, get_or}
 use Rattle.cd.specs.Diagrams.{Stored, limit}
@@ -19,11 +19,13 @@ use Rattle.cox.specs.Shown.{cox_of, family_of}
 use Rattle.cox.specs.Squares.{flat_square}
 use Rattle.cox.specs.Squares as squares
 use Rattle.cox.specs.declared.Cox.{Cox}
+use Rattle.float.specs.Pick.{pick}
 use Rattle.cox.proofs.Flats.{square_at}
 use Rattle.generator.specs.Generator.{values, first_infinite}
 use Rattle.generator.specs.Shown.{generator_of}
 use Rattle.generator.specs.TrueDistances.{coordinates}
 use Rattle.generator.specs.declared.Generator.{Generator}
+use Rattle.generator.proofs.Infinite.{found_node, found_none}
 use Rattle.normals.specs.Mirrors.{Mirrors, Columns, mirrors}
 use Rattle.normals.specs.Mirrors as normals
 use Rattle.normals.specs.Shown.{mirrors_of}
@@ -176,14 +178,14 @@ module _ (walls : Bool) (ns : List Node) where
   generator_crowded (normals.Refused i) n e h = let z : e ≡ Crowded i = cc in rw z
 
   module _ (m : squares.Square) where
-    pub generator_infinite : (k : ℕ) → k ≡ first_infinite ns 0 → k < length ns → Err (Infinite k) ≡ shown_generator walls ns (Columns m)
-    unfolding shown_generator
-    generator_infinite k e l = rw (← e, lt-ltb k (length ns) l)
+    module _ (n : ℕ) (count : n ≡ length ns) where
+      pub generator_infinite : (i : ℕ) → pick (ltb (first_infinite ns 0) n) (Some (first_infinite ns 0)) None ≡ Some i → Err (Infinite i) ≡ shown_generator walls ns (Columns m)
+      unfolding shown_generator
+      generator_infinite i h = let (t, k) = found_node _ _ _ h in rw (← count, t, k)
 
-    pub generator_solved : (k : ℕ) (g : Generator) → k ≡ first_infinite ns 0 → length ns ≤ k → g ≡ generator_of (length ns) (coordinates walls m (length ns) (values ns))
-        → Ok g ≡ shown_generator walls ns (Columns m)
-    unfolding shown_generator
-    generator_solved k g e l h = rw (← e, le-ltb k (length ns) l, h)
+      pub generator_solved : (g : Generator) → pick (ltb (first_infinite ns 0) n) (Some (first_infinite ns 0)) None ≡ None → g ≡ generator_of n (coordinates walls m n (values ns)) → Ok g ≡ shown_generator walls ns (Columns m)
+      unfolding shown_generator
+      generator_solved g h e = rw (← count, found_none _ _ h, e)
 
 pub generator_shown : (walls : Bool) (x : Reading) (ns : List Node) (es : List Stored) (m : Mirrors) (r : Result Generator CdError) → x ≡ Accepted ns es → mirrors walls (matrix es) (length ns) ≡ m
     → r ≡ shown_generator walls ns m → r ≡ generator_over walls x

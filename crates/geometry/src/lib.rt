@@ -40,6 +40,7 @@ fn normals(walls: bool, matrix: Square) -> Result<Square, CdError>
 // ---- of a text
 
 // The matrix of a diagram.
+#[tactic(auto, using(crate::proofs::Shapes::square_held))]
 fn diagram_matrix(cd: Cd) -> Square
     ensures { (ns : List Node) (es : List Stored) → cd ≡ cd_of ns es → result ≡ square (length ns) (the_matrix es) }
 {
@@ -72,9 +73,8 @@ fn generator_over(walls: bool, text: &[u8], wish: bool) -> Result<Generator, CdE
     let cd = builder::parse(text, wish)?;
     let columns = normals(walls, diagram_matrix(cd))?;
     let values = generator::values(cd);
-    let k = generator::first_infinite(values, cd.count);
-    if k < cd.count {
-        return Err(CdError::Infinite { node: k });
+    if let Some(node) = generator::first_infinite(values, cd.count) {
+        return Err(CdError::Infinite { node });
     }
     Ok(generator::of(walls, &columns.at, values, cd.count))
 }
@@ -102,6 +102,7 @@ pub fn reflections(text: &[u8], wish: bool) -> Result<Reflections, CdError>
 
 // ---- of a family
 
+#[tactic(auto, using(crate::proofs::Shapes::family_shown, crate::proofs::Shapes::family_refused))]
 pub fn family_matrix(letter: u8, size: usize) -> Result<Square, CdError>
     ensures { result ≡ family_matrix_of letter size }
 {

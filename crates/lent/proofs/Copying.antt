@@ -111,31 +111,26 @@ module _ {A B : Type 0} (f : A → List B) where
     longer : length (flat f (take (i + 1) xs)) ≡ at + length (f x)
     longer = ap length more ∙ length-append (flat f (take i xs)) (f x) ∙ ap (λ k. k + length (f x)) s.long
 
-    -- there is room for it, in the slice and in its part from `at` on
     module _ (r : length (flat f xs) ≤ length l) where
+      -- there is room for it
       pub stored_room : at + length (f x) ≤ length m
       stored_room =
           let whole = ap length (ap (flat f) (sym (take-append-drop (i + 1) xs)) ∙ flat_append (take (i + 1) xs) (drop (i + 1) xs)) ∙ length-append (flat f (take (i + 1) xs)) (flat f (drop (i + 1) xs)) in
           omega (arith, r, whole, longer, stored_length xs i at l m s)
 
-      pub part_room : length (f x) ≤ length (mid_of at (length m - at) m)
-      part_room =
-          let rest : length (drop at m) ≡ length m - at = length-drop at m in
-          omega (arith, stored_room, length-take-le (length m - at) (drop at m) (omega arith))
-
-      pub stored_more : (n : List B) → n ≡ sets (mid_of at (length m - at) m) 0 (f x)
-          → (at + length (f x) ≤ length (put_mid at (length m - at) m n)) × Stored xs (i + 1) (at + length (f x)) l (put_mid at (length m - at) m n)
-      stored_more n e =
-          let there : put_mid at (length m - at) m n ≡ sets m at (f x) =
-          ap (put_mid at (length m - at) m) e ∙ sets_part m (f x) at (length m - at) (omega (arith, stored_room)) (omega (arith, stored_room)) in
-          let more : Stored xs (i + 1) (at + length (f x)) l (sets m at (f x)) = record {
-            long = longer;
+      pub stored_more : (w : ℕ) (n : List B) → w ≡ length (f x) → n ≡ sets (mid_of at (at + w - at) m) 0 (f x)
+          → (at + w ≤ length (put_mid at (at + w - at) m n)) × Stored xs (i + 1) (at + w) l (put_mid at (at + w - at) m n)
+      stored_more w n e q =
+          let there : put_mid at (at + w - at) m n ≡ sets m at (f x) =
+          ap (put_mid at (at + w - at) m) q ∙ sets_part m (f x) at (at + w - at) (omega arith) (omega (arith, stored_room)) in
+          let run : Stored xs (i + 1) (at + w) l (sets m at (f x)) = record {
+            long = longer ∙ ap (λ k. at + k) (sym e);
             stored = ap (λ o. sets o at (f x)) s.stored
                 ∙ ap (λ k. sets (sets l 0 (flat f (take i xs))) k (f x)) (sym (zero-add at))
                 ∙ sets_behind l (flat f (take i xs)) (f x) 0 at s.long
                 ∙ ap (sets l 0) (sym more);
           } in
-          rw there (omega (arith, stored_room, length-sets m at (f x)), more)
+          rw there (omega (arith, stored_room, length-sets m at (f x)), run)
 
   pub stored_all : (xs : List A) (i at : ℕ) (l m : List B) → Stored xs i at l m → length xs ≤ i → m ≡ sets l 0 (flat f xs)
   stored_all xs i at l m s h = s.stored ∙ ap (λ ys. sets l 0 (flat f ys)) (take_all i xs h)

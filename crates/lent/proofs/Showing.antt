@@ -1,7 +1,7 @@
 -- What a call tells and shows, case by case: refused, too short a slice, shown. Assumes nothing.
 use Rattle.std.specs.Prelude.{Result, Ok, Err}
 use mathlib.Core.Bool.{Bool, true, false}
-use mathlib.Core.List.{List, ◌∷◌, ◌++◌}
+use mathlib.Core.List.{List, [], ◌∷◌, ◌++◌}
 use mathlib.Core.Path.{◌≡◌, refl, sym, ap, ap₂, subst, ◌∙◌}
 use Prim.Native.Nat.{ℕ, ◌+◌, ◌-◌, ◌*◌, ◌≤◌, ◌<◌}
 use native.Mathlib.Nat.{zero-add}
@@ -38,7 +38,7 @@ flag false = refl
 -- ---- what `fit` stores and answers
 
 module _ {A B : Type 0} (f : A → List ℕ) (g : A → List B) (out : List B) where
-  abbrev pub Fit : Result A CdError → List B → Result (List ℕ) CdError → Type 0
+  abbrev pub Fit : Result A CdError → List B → Result (ℕ × ℕ × ℕ) CdError → Type 0
   Fit r out' t = (out' ≡ lent (fitted (length out) (outcome f g r)) out) × (figures t ≡ told (fitted (length out) (outcome f g r)))
 
   pub fit_refusal : (e : CdError) → Fit (Err e) out (Err e)
@@ -49,9 +49,9 @@ module _ {A B : Type 0} (f : A → List ℕ) (g : A → List B) (out : List B) w
   unfolding outcome fitted lent told figures
   fit_short x l = rw (lt-ltb (length out) (length (g x)) l) (refl, refl)
 
-  pub fit_shown : (x : A) (out' : List B) (fs : List ℕ) → length (g x) ≤ length out → out' ≡ sets out 0 (g x) → fs ≡ padded 0 4 (0 ∷ f x) → Fit (Ok x) out' (Ok fs)
+  pub fit_shown : (x : A) (out' : List B) (a b c : ℕ) → length (g x) ≤ length out → out' ≡ sets out 0 (g x) → 0 ∷ a ∷ b ∷ c ∷ [] ≡ padded 0 4 (0 ∷ f x) → Fit (Ok x) out' (Ok (a, b, c))
   unfolding outcome fitted lent told figures
-  fit_shown x out' fs l s t = rw (le-ltb (length out) (length (g x)) l) (s, t)
+  fit_shown x out' a b c l s t = rw (le-ltb (length out) (length (g x)) l) (s, t)
 
 -- what a call with room enough has told, returned and shown
 module _ {A : Type 0} {o : Outcome A} {fs : List ℕ} {xs out out' : List A} {answer' : List ℕ} {r : ℕ} (l : Lends o out out' answer' r) (is : o ≡ Shows fs xs) (room : length xs ≤ length out) where

@@ -1,6 +1,6 @@
 -- Document 01, "What each operation refuses": "A refusal gives its number and the fields named, no value, and leaves an output buffer untouched." and "In every
 -- call, an output buffer keeps its bytes past what was written." For C a call writes to a lent slice, and its answer is four numbers.
-use Rattle.std.specs.Prelude.{List, ◌∷◌, ◌≡◌, ℕ, ltb, length, get_or, Result, Ok, Err}
+use Rattle.std.specs.Prelude.{List, [], ◌∷◌, ◌≡◌, ℕ, ltb, length, get_or, Result, Ok, Err}
 use Rattle.std.proofs.lemmas.List.Edits.{sets}
 use Rattle.float.specs.Pick.{pick}
 use Rattle.cd.specs.Arrays.{padded}
@@ -34,10 +34,10 @@ unfolding padded number_of
 told (Shows fs xs) = padded 0 4 (0 ∷ fs)
 told (Refuses e) = padded 0 4 (number_of e)
 
--- the four numbers that the code has of them, or a refusal's
-unfoldable pub figures : Result (List ℕ) CdError → List ℕ
+-- the four numbers of three fields, or of a refusal
+unfoldable pub figures : Result (ℕ × ℕ × ℕ) CdError → List ℕ
 unfolding padded number_of
-figures (Ok fs) = fs
+figures (Ok (a, b, c)) = 0 ∷ a ∷ b ∷ c ∷ []
 figures (Err e) = padded 0 4 (number_of e)
 
 -- of a slice before and after, the four numbers afterwards, and the number returned

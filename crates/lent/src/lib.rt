@@ -28,12 +28,15 @@ const REFLECTIONS: usize = SQUARE * LIMIT;
 
 // ---- what a call tells
 
-// Stores the four numbers, or the refusal's number and fields; the first is what the call returns.
-pub fn tell(f: Result<[usize; ANSWER], CdError>, answer: &mut [usize; ANSWER]) -> usize
+// The fields of an answer, which stand behind its first number, 0.
+pub type Fields = (usize, usize, usize);
+
+// Stores an answer, or a refusal's number and fields; the first number is what the call returns.
+pub fn tell(f: Result<Fields, CdError>, answer: &mut [usize; ANSWER]) -> usize
     ensures { (answer.new ≡ figures f) × (result ≡ get_or answer.new 0 0) }
 {
     *answer = match f {
-        Ok(f) => f,
+        Ok((a, b, c)) => [0, a, b, c],
         Err(e) => cd::figures(e).at,
     };
     answer[0]
@@ -66,8 +69,9 @@ fn put_each<T: Shown>(all: &[T], out: &mut [T::Item])
 {
     let mut at = 0;
     for x in all {
-        x.put(&mut out[at..]);
-        at += x.length();
+        let n = x.length();
+        x.put(&mut out[at..at + n]);
+        at += n;
     }
 }
 
@@ -267,20 +271,20 @@ impl Shown for Reflections {
 
 // ---- what a call tells and shows, or what refuses it
 
-// What is told of what is shown, behind 0.
+// And what is told of it.
 pub trait Told: Shown {
     ghost told: { Self → List ℕ };
 
-    fn told(&self) -> [usize; ANSWER]
-        ensures { result ≡ padded 0 4 (0 ∷ told self.now) };
+    fn told(&self) -> Fields
+        ensures { 0 ∷ result.0 ∷ result.1 ∷ result.2 ∷ [] ≡ padded 0 4 (0 ∷ told self.now) };
 }
 
 #[tactic(auto, using(crate::proofs::Showing::flag), unfolding(cd::specs::Arrays::padded))]
 impl Told for Reading {
     ghost told = { λ r. r.cd.count ∷ r.cd.edges ∷ pick r.minimal 1 0 ∷ [] };
 
-    fn told(&self) -> [usize; ANSWER] {
-        [0, self.cd.count, self.cd.edges, self.minimal as usize]
+    fn told(&self) -> Fields {
+        (self.cd.count, self.cd.edges, self.minimal as usize)
     }
 }
 
@@ -288,8 +292,8 @@ impl Told for Reading {
 impl Told for Cd {
     ghost told = { λ cd. cd.count ∷ cd.edges ∷ [] };
 
-    fn told(&self) -> [usize; ANSWER] {
-        [0, self.count, self.edges, 0]
+    fn told(&self) -> Fields {
+        (self.count, self.edges, 0)
     }
 }
 
@@ -297,8 +301,8 @@ impl Told for Cd {
 impl Told for Groups {
     ghost told = { λ g. g.count ∷ [] };
 
-    fn told(&self) -> [usize; ANSWER] {
-        [0, self.count, 0, 0]
+    fn told(&self) -> Fields {
+        (self.count, 0, 0)
     }
 }
 
@@ -306,8 +310,8 @@ impl Told for Groups {
 impl Told for Square {
     ghost told = { λ s. s.count ∷ [] };
 
-    fn told(&self) -> [usize; ANSWER] {
-        [0, self.count, 0, 0]
+    fn told(&self) -> Fields {
+        (self.count, 0, 0)
     }
 }
 
@@ -315,8 +319,8 @@ impl Told for Square {
 impl Told for Generator {
     ghost told = { λ g. g.count ∷ [] };
 
-    fn told(&self) -> [usize; ANSWER] {
-        [0, self.count, 0, 0]
+    fn told(&self) -> Fields {
+        (self.count, 0, 0)
     }
 }
 
@@ -324,16 +328,13 @@ impl Told for Generator {
 impl Told for Reflections {
     ghost told = { λ r. r.count ∷ [] };
 
-    fn told(&self) -> [usize; ANSWER] {
-        [0, self.count, 0, 0]
+    fn told(&self) -> Fields {
+        (self.count, 0, 0)
     }
 }
 
 // What is shown, if the slice has room for it, and what is to be told.
-fn fit<T: Told + Copy>(
-    r: Result<T, CdError>,
-    out: &mut [T::Item],
-) -> Result<[usize; ANSWER], CdError>
+fn fit<T: Told + Copy>(r: Result<T, CdError>, out: &mut [T::Item]) -> Result<Fields, CdError>
     requires { (x : T) → r ≡ Ok x → T.can_show x }
     ensures { (out.new ≡ lent (fitted (length out.old) (outcome T.told T.shown r)) out.old) × (figures result ≡ told (fitted (length out.old) (outcome T.told T.shown r))) }
 {

@@ -1,6 +1,7 @@
 -- Ticket K11 of the calls for C: where two calls of `lexicon_write_record` that return 0 have written the same 370 bytes, calls of `lexicon_read` and `lexicon_names` with the
 -- same texts and wishes tell and show the same mark, the same number of edges between different nodes and the same names, or 21 for both. It rests on the promises
 -- `FilesForC`, `ReadsForC` and `NamesForC` alone, and on the theorem of the calls in Rattle. Assumes nothing.
+use Rattle.std.specs.Prelude.{Ok, Err}
 use mathlib.Core.Bool.{Bool}
 use mathlib.Core.List.{List, [], ◌∷◌, map}
 use mathlib.Core.Path.{◌≡◌, refl, sym, ap, ◌∙◌, subst}
@@ -11,7 +12,7 @@ use lib.ListN.{length, get_or, take}
 use lib.Seq.{get_or-append-add, get_or-take, length-take-le}
 use Rattle.float.specs.Pick.{pick}
 use Rattle.cd.specs.Arrays.{padded}
-use Rattle.cd.specs.Diagrams.{Stored, none, between, limit, pair_limit, place, place_of, cd_of}
+use Rattle.cd.specs.Diagrams.{Stored, none, between, limit, pair_limit, place, place_of}
 use Rattle.cd.specs.Refusals.{number_of}
 use Rattle.cd.specs.declared.Cd.{Cd}
 use Rattle.cd.specs.declared.CdError.TheVariants.{NoName}
@@ -23,23 +24,23 @@ use Rattle.filing.specs.Counts.{pair_count}
 use Rattle.filing.specs.Numberings.{Numbering}
 use Rattle.filing.specs.Records.{record_length}
 use Rattle.filing.proofs.Sums.{pairs_local}
-use Rattle.group_names.specs.Named.{blank, refusal}
+use Rattle.group_names.specs.Named.{blank}
 use Rattle.group_names.specs.Names.{written}
-use Rattle.group_names.specs.declared.Group.{Group}
 use Rattle.group_names.specs.declared.Groups.{Groups}
 use Rattle.group_names.specs.declared.Name.{Name}
-use Rattle.lent.specs.Outcomes.{Shows, told, fitted}
-use Rattle.lent.specs.Shown.{diagram_length, names_length, outcome, flat, node_numbers, pair_numbers, numbers_of, group_numbers, of_reading, of_groups}
+use Rattle.lent.specs.Outcomes.{Shows, outcome, told, fitted}
+use Rattle.lent.specs.Shown.{diagram_length, names_length, flat, node_numbers, pair_numbers, numbers_of, group_numbers, names_of, of_reading, of_groups}
 use Rattle.lent.proofs.Copying.{flat_at}
-use Rattle.lent.proofs.Showing.{nodes_long, numbers_long, shown_told, shown_returned, shown_at}
-use Rattle.lexicon.proofs.Answers.{answers}
+use Rattle.lent.proofs.Showing.{nodes_long, numbers_long, names_long, shown_told, shown_returned, shown_at}
+use Rattle.lexicon.specs.Reads.{Reads}
+use Rattle.lexicon.specs.declared.Reading.{Reading}
+use Rattle.lexicon.proofs.Answers.{Answers, answers}
 use Rattle.lexicon_articles.specs.Articles.{edge_count, name_at, SameNames}
 use Rattle.lexicon_articles.specs.Articles as articles
 use Rattle.lexicon_articles.proofs.EqualRecords as theorem
+use Rattle.lexicon_names.specs.NamesText.{NamesText}
 use Rattle.lexicon_names.proofs.OneAnswer.{names_few, names_full}
 use Rattle.parse.specs.Reading.{Accepted, read}
-use Rattle.parse.specs.declared.Answer.TheVariants as said
-use Rattle.parse.specs.declared.Read.{Read}
 use Rattle.parse.proofs.Outcomes.{accepted_few}
 use Rattle.lexicon_c.specs.Articles.{Called, edges_shown, name_shown, SameNamesForC, named, nameless, SameArticleForC}
 use Rattle.lexicon_c.specs.Calls.{FilesForC, ReadsForC, NamesForC}
@@ -49,32 +50,32 @@ use Rattle.lexicon_c.proofs.Demand3.{returned_0}
 
 module _ {wish : Bool} {text out : List ℕ} {ns : List Node} {es : List Stored} (c : Called) (accepted : read wish text ≡ Accepted ns es)
     (reads : ReadsForC wish text out c.out c.answer c.returned) (room : diagram_length ≤ length out) where
+  abbrev answered : Answers ns es reads.reading
+  answered = answers accepted reads.reads
+
+  abbrev reading : Reading
+  reading = answered.reading
+
   abbrev cd : Cd
-  cd = reads.reading.read.cd
-
-  says : reads.reading.read.answer ≡ said.Accepted
-  says = ap (λ (r : Read). r.answer) (answers accepted reads.reads)
-
-  held : cd ≡ cd_of ns es
-  held = ap (λ (r : Read). r.cd) (answers accepted reads.reads)
+  cd = reading.cd
 
   nodes_full : length cd.nodes ≡ limit
-  nodes_full = ap length (nodes_held cd ns es held) ∙ length_padded (place Unringed) limit (map place ns)
+  nodes_full = ap length (nodes_held cd ns es answered.cd) ∙ length_padded (place Unringed) limit (map place ns)
 
   pairs_full : length cd.pairs ≡ pair_limit
-  pairs_full = ap length (pairs_held cd ns es held) ∙ length_triangle (between 1 es) limit
+  pairs_full = ap length (pairs_held cd ns es answered.cd) ∙ length_triangle (between 1 es) limit
 
   long : length (numbers_of cd) ≡ diagram_length
-  long = numbers_long cd nodes_full pairs_full
+  long = omega (arith, numbers_long cd, nodes_full, pairs_full)
 
-  is : of_reading reads.reading ≡ Shows (cd.count ∷ cd.edges ∷ pick reads.reading.minimal 1 0 ∷ []) (numbers_of cd)
+  is : of_reading reads.reading ≡ Shows (cd.count ∷ cd.edges ∷ pick reading.minimal 1 0 ∷ []) (numbers_of cd)
   unfolding outcome
-  is = ap (λ z. outcome z (cd.count ∷ cd.edges ∷ pick reads.reading.minimal 1 0 ∷ []) (numbers_of cd)) says
+  is = ap of_reading answered.is
 
   read_returned : c.returned ≡ 0
   read_returned = shown_returned reads.lends is (omega (arith, long))
 
-  read_told : c.answer ≡ 0 ∷ cd.count ∷ cd.edges ∷ pick reads.reading.minimal 1 0 ∷ []
+  read_told : c.answer ≡ 0 ∷ cd.count ∷ cd.edges ∷ pick reading.minimal 1 0 ∷ []
   unfolding padded
   read_told = shown_told reads.lends is (omega (arith, long))
 
@@ -91,12 +92,15 @@ module _ {wish : Bool} {text out : List ℕ} {ns : List Node} {es : List Stored}
 
   edges_shown_lem : edges_shown c ≡ edge_count cd
   edges_shown_lem =
-      let few : cd.count ≤ limit = omega (arith, count_held cd ns es held, accepted_few wish text ns es accepted) in
+      let few : cd.count ≤ limit = omega (arith, count_held cd ns es answered.cd, accepted_few wish text ns es accepted) in
       ap (λ z. pair_count (λ i j. ltb 0 (get_or c.out (2 * limit + 3 * place_of i j) 0)) (get_or z 1 0)) read_told
       ∙ pairs_local _ _ cd.count (λ i j l h. ap (ltb 0) (rank_shown i j l (omega arith)))
 
-  mark_shown : get_or c.answer 3 0 ≡ pick reads.reading.minimal 1 0
+  mark_shown : get_or c.answer 3 0 ≡ pick reading.minimal 1 0
   mark_shown = ap (λ z. get_or z 3 0) read_told
+
+  reads_ok : Reads wish text (Ok reading)
+  reads_ok = subst (Reads wish text) answered.is reads.reads
 
 -- ---- what `lexicon_names` tells and shows
 
@@ -105,64 +109,55 @@ numbers : Name × ℕ → List ℕ
 numbers (x, o) = (written x).letter ∷ (written x).number ∷ o ∷ []
 
 module _ {wish : Bool} {text out : List ℕ} (c : Called) (names : NamesForC wish text out c.out c.answer c.returned) (room : names_length ≤ length out) where
-  abbrev groups : Groups
-  groups = names.groups
+  module _ {g : Groups} (named : names.groups ≡ Ok g) where
+    names_ok : NamesText wish text (Ok g)
+    names_ok = subst (NamesText wish text) named names.names
 
-  abbrev components : List Group
-  components = take groups.count groups.at
-
-  abbrev places : List ℕ
-  places = padded 0 names_length (flat group_numbers components)
-
-  places_long : length places ≡ names_length
-  places_long = length_padded 0 names_length (flat group_numbers components)
-
-  module _ (accepted : groups.answer ≡ said.Accepted) where
-    shown : of_groups groups ≡ Shows (groups.count ∷ []) places
+    shown : of_groups names.groups ≡ Shows (g.count ∷ []) (names_of g)
     unfolding outcome
-    shown = ap (λ z. outcome z (groups.count ∷ []) places) accepted
+    shown = ap of_groups named
 
-    fits : length places ≤ length out
-    fits = omega (arith, places_long)
+    fits : length (names_of g) ≤ length out
+    fits = omega (arith, names_long g)
 
     names_returned : c.returned ≡ 0
     names_returned = shown_returned names.lends shown fits
 
-    names_told : get_or c.answer 1 0 ≡ groups.count
+    names_told : get_or c.answer 1 0 ≡ g.count
     unfolding padded
     names_told = ap (λ z. get_or z 1 0) (shown_told names.lends shown fits)
 
-    number_shown : (i k : ℕ) → i < groups.count → k < 4 → get_or c.out (4 * i + k) 0 ≡ get_or (group_numbers (get_or groups.at i blank)) k 0
-    unfolding group_numbers
+    number_shown : (i k : ℕ) → i < g.count → k < 4 → get_or c.out (4 * i + k) 0 ≡ get_or (group_numbers (get_or g.at i blank)) k 0
+    unfolding names_of group_numbers
     number_shown i k h l =
-        let few = names_few names.names in
-        let whole : length components ≡ groups.count = length-take-le groups.count groups.at (omega (arith, names_full names.names)) in
-        shown_at names.lends shown fits (4 * i + k) 0 (omega (arith, places_long))
-        ∙ get_or_padded 0 0 names_length (flat group_numbers components) (4 * i + k) (omega arith)
-        ∙ flat_at group_numbers 4 (λ g. refl) components i k blank 0 (omega arith) l
-        ∙ ap (λ g. get_or (group_numbers g) k 0) (get_or-take groups.count groups.at i blank h)
+        let few = names_few names_ok in
+        let whole : length (take g.count g.at) ≡ g.count = length-take-le g.count g.at (omega (arith, names_full names_ok)) in
+        shown_at names.lends shown fits (4 * i + k) 0 (omega (arith, names_long g))
+        ∙ get_or_padded 0 0 names_length (flat group_numbers (take g.count g.at)) (4 * i + k) (omega arith)
+        ∙ flat_at group_numbers 4 (λ y. refl) (take g.count g.at) i k blank 0 (omega arith) l
+        ∙ ap (λ y. get_or (group_numbers y) k 0) (get_or-take g.count g.at i blank h)
 
-    name_shown_lem : (i : ℕ) → i < groups.count → name_shown c i ≡ numbers (name_at groups i)
+    name_shown_lem : (i : ℕ) → i < g.count → name_shown c i ≡ numbers (name_at g i)
     unfolding group_numbers numbers
     name_shown_lem i h = λ t. number_shown i 1 h (omega arith) t ∷ number_shown i 2 h (omega arith) t ∷ number_shown i 3 h (omega arith) t ∷ []
 
-  names_refused : {v : ℕ} → groups ≡ refusal (NoName v) → c.returned ≡ 21
-  unfolding told fitted outcome number_of padded
+  names_refused : {v : ℕ} → names.groups ≡ Err (NoName v) → c.returned ≡ 21
+  unfolding outcome told fitted number_of padded
   names_refused e = names.lends.returned ∙ ap (λ z. get_or z 0 0) (names.lends.answer ∙ ap (λ g. told (fitted (length out) (of_groups g))) e)
 
 module _ {v w : Bool} {s t a b : List ℕ} (r g : Called) (names-s : NamesForC v s a r.out r.answer r.returned) (names-t : NamesForC w t b g.out g.answer g.returned)
     (room-s : names_length ≤ length a) (room-t : names_length ≤ length b) where
   names_alike : SameNames names-s.groups names-t.groups → SameNamesForC r g
-  names_alike (articles.named x y m) =
-      let own = names_told r names-s room-s x in
-      let other = names_told g names-t room-t y in
-      named (names_returned r names-s room-s x) (names_returned g names-t room-t y) (record {
+  names_alike (articles.named {g = x} x-is y-is m) =
+      let own = names_told r names-s room-s x-is in
+      let other = names_told g names-t room-t y-is in
+      named (names_returned r names-s room-s x-is) (names_returned g names-t room-t y-is) (record {
         size = own ∙ m.size ∙ sym other;
         places = m.places;
         numbering = subst (λ n. Numbering n m.places) (sym own) m.numbering;
         same = λ i h.
-            let l : i < names-s.groups.count = omega arith in
-            name_shown_lem r names-s room-s x i l ∙ ap numbers (m.same i l) ∙ sym (name_shown_lem g names-t room-t y (m.places i) (omega (arith, m.numbering.within i l, m.size)));
+            let l : i < x.count = omega arith in
+            name_shown_lem r names-s room-s x-is i l ∙ ap numbers (m.same i l) ∙ sym (name_shown_lem g names-t room-t y-is (m.places i) (omega (arith, m.numbering.within i l, m.size)));
       })
   names_alike (articles.nameless e q) = nameless (names_refused r names-s room-s e) (names_refused g names-t room-t q)
 
@@ -181,7 +176,7 @@ module _ (w z : Bool) (s t a a' b b' p p' q q' u v : List ℕ) (m n : ℕ) (file
       let y = returned_0 files-t n-0 in
       let same =
       theorem.equal_articles w z s t x.nodes y.nodes x.edges y.edges a a' b b' files-s.filed files-t.filed x.accepted y.accepted x.long y.long
-      files-s.files files-t.files equal ps.reads rs.names qt.reads gt.names in
+      files-s.files files-t.files equal (reads_ok read-s x.accepted ps lc) rs.names (reads_ok read-t y.accepted qt le) gt.names in
       record {
         read = (read_returned read-s x.accepted ps lc, read_returned read-t y.accepted qt le);
         mark = mark_shown read-s x.accepted ps lc ∙ ap (λ k. pick k 1 0) same.mark ∙ sym (mark_shown read-t y.accepted qt le);

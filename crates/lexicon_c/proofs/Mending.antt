@@ -1,5 +1,6 @@
 -- Ticket K5's law of mending, of the calls for C: bytes for which `lexicon_read_record` returns 22 have one right record, and a call of `lexicon_write_record` that returns
 -- 0 has written it exactly when some renumbering carries the text's diagram onto theirs. It rests on the promises `ReadsRecordForC` and `FilesForC` alone. Assumes nothing.
+use Rattle.std.specs.Prelude.{Result, Ok, Err}
 use mathlib.Core.Bool.{Bool, true, false}
 use mathlib.Core.List.{List}
 use mathlib.Core.Logic.{◌↔◌}
@@ -17,11 +18,8 @@ use Rattle.cd.specs.declared.CdError.TheVariants.{TooLong, NotAscii, MismatchedP
 use Rattle.filing.specs.Diagrams.{Iso}
 use Rattle.filing.specs.Readable.{LaidOut}
 use Rattle.filing.specs.Records.{record_length}
-use Rattle.lent.specs.Outcomes.{Shows, Refuses, fitted, told}
-use Rattle.lent.specs.Shown.{outcome}
+use Rattle.lent.specs.Outcomes.{Shows, Refuses, outcome, fitted, told}
 use Rattle.lexicon.proofs.Mending as lexicon
-use Rattle.parse.specs.declared.Answer.{Answer}
-use Rattle.parse.specs.declared.Answer.TheVariants as said
 use Rattle.tables.specs.Diagrams.{diagram}
 use Rattle.lexicon_c.specs.Calls.{FilesForC, ReadsRecordForC}
 use Rattle.lexicon_c.proofs.Demand3.{returned_0}
@@ -58,17 +56,17 @@ unfolding told padded number_of
 shown_22 true fs xs h = omega arith
 shown_22 false fs xs h = omega arith
 
-answered_22 : {A : Type 0} (a : Answer) (n : ℕ) (fs : List ℕ) (xs : List A) → get_or (told (fitted n (outcome a fs xs))) 0 0 ≡ 22 → a ≡ said.Refused NotSmallest
+answered_22 : {A B : Type 0} (f : A → List ℕ) (g : A → List B) (a : Result A CdError) (n : ℕ) → get_or (told (fitted n (outcome f g a))) 0 0 ≡ 22 → a ≡ Err NotSmallest
 unfolding told fitted outcome
-answered_22 said.Accepted n fs xs h = absurd (shown_22 (ltb n (length xs)) fs xs h)
-answered_22 (said.Refused e) n fs xs h = ap said.Refused (only_22 e h)
+answered_22 f g (Ok x) n h = absurd (shown_22 (ltb n (length (g x))) (f x) (g x) h)
+answered_22 f g (Err e) n h = ap Err (only_22 e h)
 
 -- a call that returns 22
 module _ (bytes out out' answer' : List ℕ) (n : ℕ) (reads : ReadsRecordForC bytes out out' answer' n) (n-22 : n ≡ 22) where
-  pub refused : reads.read.answer ≡ said.Refused NotSmallest
+  pub refused : reads.read ≡ Err NotSmallest
   refused =
       let l = reads.lends in
-      answered_22 reads.read.answer (length out) _ _ (ap (λ u. get_or u 0 0) (sym l.answer) ∙ sym l.returned ∙ n-22)
+      answered_22 _ _ reads.read (length out) (ap (λ u. get_or u 0 0) (sym l.answer) ∙ sym l.returned ∙ n-22)
 
   abbrev pub right : List ℕ
   right = lexicon.right bytes reads.read reads.reads refused

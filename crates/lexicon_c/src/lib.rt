@@ -9,9 +9,8 @@ ghost use Rattle.geometry.specs.Squares.{matrix_of, mirrors_of, walls_of, family
 ghost use Rattle.parse.specs.Reading.{read};
 ghost use Rattle.lexicon_c.specs.Calls.{wished, ReadsForC, FilesForC, ReadsRecordForC, NamesForC, Tells, found_numbers, ChecksForC, FindsForC, BisectsForC, AddsForC, RescuesForC};
 
-use cd::LIMIT;
+use cd::{CdError, LIMIT};
 use lent::ANSWER;
-use parse::Answer;
 use shelf::Found;
 
 #[unsafe(no_mangle)]
@@ -23,10 +22,7 @@ pub extern "C" fn lexicon_read(
 ) -> usize
     ensures { ReadsForC (wished wish) text.now out.old out.new answer.new result }
 {
-    let x = lexicon::read(text, wish != 0);
-    let r = x.read;
-    let cd = r.cd;
-    lent::show_diagram(r, [0, cd.count, cd.edges, x.minimal as usize], out, answer)
+    lent::show(lexicon::read(text, wish != 0), out, answer)
 }
 
 #[unsafe(no_mangle)]
@@ -39,16 +35,12 @@ pub extern "C" fn lexicon_write_record(
 ) -> usize
     ensures { FilesForC (wished wish) text.now out.old out.new numbering.old numbering.new answer.new result }
 {
-    let f = lexicon::write_record(text, wish != 0, out);
-    let a = f.answer;
-    match a {
-        Answer::Accepted => {
-            let of = f.numbering;
-            *numbering = of;
-            lent::tell([0, f.count, 0, 0], answer)
-        }
-        Answer::Refused(e) => lent::refuse(e, answer),
+    let r = lexicon::write_record(text, wish != 0, out);
+    if let Ok(f) = &r {
+        let of = f.numbering;
+        *numbering = of;
     }
+    lent::tell(r.map(|f| (f.count, 0, 0)), answer)
 }
 
 #[unsafe(no_mangle)]
@@ -59,9 +51,7 @@ pub extern "C" fn lexicon_read_record(
 ) -> usize
     ensures { ReadsRecordForC bytes.now out.old out.new answer.new result }
 {
-    let r = lexicon::read_record(bytes);
-    let cd = r.cd;
-    lent::show_diagram(r, [0, cd.count, cd.edges, 0], out, answer)
+    lent::show(lexicon::read_record(bytes), out, answer)
 }
 
 #[unsafe(no_mangle)]
@@ -73,7 +63,7 @@ pub extern "C" fn lexicon_matrix(
 ) -> usize
     ensures { Lends (of_square (matrix_of (read (wished wish) text.now))) out.old out.new answer.new result }
 {
-    lent::show_square(geometry::matrix(text, wish != 0), out, answer)
+    lent::show(geometry::matrix(text, wish != 0), out, answer)
 }
 
 #[unsafe(no_mangle)]
@@ -85,7 +75,7 @@ pub extern "C" fn lexicon_mirrors(
 ) -> usize
     ensures { Lends (of_square (mirrors_of (read (wished wish) text.now))) out.old out.new answer.new result }
 {
-    lent::show_square(geometry::mirrors(text, wish != 0), out, answer)
+    lent::show(geometry::mirrors(text, wish != 0), out, answer)
 }
 
 #[unsafe(no_mangle)]
@@ -97,7 +87,7 @@ pub extern "C" fn lexicon_walls(
 ) -> usize
     ensures { Lends (of_square (walls_of (read (wished wish) text.now))) out.old out.new answer.new result }
 {
-    lent::show_square(geometry::walls(text, wish != 0), out, answer)
+    lent::show(geometry::walls(text, wish != 0), out, answer)
 }
 
 #[unsafe(no_mangle)]
@@ -109,7 +99,7 @@ pub extern "C" fn lexicon_generator(
 ) -> usize
     ensures { Lends (of_generated (generator_of_text (read (wished wish) text.now))) out.old out.new answer.new result }
 {
-    lent::show_generated(geometry::generator(text, wish != 0), out, answer)
+    lent::show(geometry::generator(text, wish != 0), out, answer)
 }
 
 #[unsafe(no_mangle)]
@@ -121,7 +111,7 @@ pub extern "C" fn lexicon_wall_generator(
 ) -> usize
     ensures { Lends (of_generated (wall_generator_of_text (read (wished wish) text.now))) out.old out.new answer.new result }
 {
-    lent::show_generated(geometry::wall_generator(text, wish != 0), out, answer)
+    lent::show(geometry::wall_generator(text, wish != 0), out, answer)
 }
 
 #[unsafe(no_mangle)]
@@ -133,7 +123,7 @@ pub extern "C" fn lexicon_reflections(
 ) -> usize
     ensures { Lends (of_reflected (reflections_of_text (read (wished wish) text.now))) out.old out.new answer.new result }
 {
-    lent::show_reflected(geometry::reflections(text, wish != 0), out, answer)
+    lent::show(geometry::reflections(text, wish != 0), out, answer)
 }
 
 #[unsafe(no_mangle)]
@@ -145,7 +135,7 @@ pub extern "C" fn lexicon_family_matrix(
 ) -> usize
     ensures { Lends (of_square (family_matrix_of letter size)) out.old out.new answer.new result }
 {
-    lent::show_square(geometry::family_matrix(letter, size), out, answer)
+    lent::show(geometry::family_matrix(letter, size), out, answer)
 }
 
 #[unsafe(no_mangle)]
@@ -157,7 +147,7 @@ pub extern "C" fn lexicon_family_mirrors(
 ) -> usize
     ensures { Lends (of_square (family_mirrors_of letter size)) out.old out.new answer.new result }
 {
-    lent::show_square(geometry::family_mirrors(letter, size), out, answer)
+    lent::show(geometry::family_mirrors(letter, size), out, answer)
 }
 
 #[unsafe(no_mangle)]
@@ -169,7 +159,7 @@ pub extern "C" fn lexicon_family_walls(
 ) -> usize
     ensures { Lends (of_square (family_walls_of letter size)) out.old out.new answer.new result }
 {
-    lent::show_square(geometry::family_walls(letter, size), out, answer)
+    lent::show(geometry::family_walls(letter, size), out, answer)
 }
 
 #[unsafe(no_mangle)]
@@ -181,7 +171,7 @@ pub extern "C" fn lexicon_names(
 ) -> usize
     ensures { NamesForC (wished wish) text.now out.old out.new answer.new result }
 {
-    lent::show_groups(lexicon_names::names(text, wish != 0), out, answer)
+    lent::show(lexicon_names::names(text, wish != 0), out, answer)
 }
 
 // ---- shelf files
@@ -191,23 +181,14 @@ pub extern "C" fn lexicon_names(
 pub extern "C" fn lexicon_shelf_check(file: &[u8], answer: &mut [usize; ANSWER]) -> usize
     ensures { ChecksForC file.now answer.new result }
 {
-    let c = shelf::check(file);
-    let a = c.answer;
-    match a {
-        Answer::Accepted => lent::tell([0, c.places, 0, 0], answer),
-        Answer::Refused(e) => lent::refuse(e, answer),
-    }
+    lent::tell(shelf::check(file).map(|n| (n, 0, 0)), answer)
 }
 
 // 1 and the record's place, or 0 and the place where it would stand.
-fn tell_found(f: Found, answer: &mut [usize; ANSWER]) -> usize
-    ensures { Tells f.answer (found_numbers f) answer.new result }
+fn tell_found(r: Result<Found, CdError>, answer: &mut [usize; ANSWER]) -> usize
+    ensures { Tells found_numbers r answer.new result }
 {
-    let a = f.answer;
-    match a {
-        Answer::Accepted => lent::tell([0, f.present as usize, f.place, 0], answer),
-        Answer::Refused(e) => lent::refuse(e, answer),
-    }
+    lent::tell(r.map(|f| (f.present as usize, f.place, 0)), answer)
 }
 
 #[unsafe(no_mangle)]
@@ -242,12 +223,7 @@ pub extern "C" fn lexicon_shelf_add(
 ) -> usize
     ensures { AddsForC file.now bytes.now out.old out.new answer.new result }
 {
-    let f = shelf::add(file, bytes, out);
-    let a = f.answer;
-    match a {
-        Answer::Accepted => lent::tell([0, f.place, 0, 0], answer),
-        Answer::Refused(e) => lent::refuse(e, answer),
-    }
+    lent::tell(shelf::add(file, bytes, out).map(|p| (p, 0, 0)), answer)
 }
 
 // Tells the places kept and the length of the tail.
@@ -260,10 +236,8 @@ pub extern "C" fn lexicon_shelf_rescue(
 ) -> usize
     ensures { RescuesForC file.now out.old marks.old out.new marks.new answer.new result }
 {
-    let s = shelf_rescue::rescue(file, out, marks);
-    let a = s.answer;
-    match a {
-        Answer::Accepted => lent::tell([0, s.kept, s.tail, 0], answer),
-        Answer::Refused(e) => lent::refuse(e, answer),
-    }
+    lent::tell(
+        shelf_rescue::rescue(file, out, marks).map(|s| (s.kept, s.tail, 0)),
+        answer,
+    )
 }

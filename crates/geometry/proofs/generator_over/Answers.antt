@@ -1,10 +1,9 @@
 -- `geometry::generator_over` meets its contract: 15, then 16, then the generator.
-use mathlib.Core.Path.{◌≡◌, refl, subst}
+use mathlib.Core.Path.{refl, sym, ◌∙◌}
 use Rattle.std.proofs.lemmas.Result.{err_from_is_err_and}
 use Rattle.cd.proofs.Stored.{count_held}
 use Rattle.generator.specs.Generator.{values}
-use Rattle.generator.specs.Shown.{generator_of}
-use Rattle.generator.specs.TrueDistances.{coordinates}
+use Rattle.generator.proofs.Infinite.{first_found}
 use Rattle.lexicon.proofs.Answers.{accepts, refuses, read_few}
 use Rattle.geometry.proofs.Shapes.{fits, diagram_normals, diagram_few, generator_crowded, generator_infinite, generator_solved, generator_shown, generator_refused}
 use Rattle.geometry.proofs.generator_over.Goals as goal
@@ -26,16 +25,16 @@ returns-in_err-columns c =
     let e = diagram_normals _ a.ns a.es _ _ (c.diagram_matrix.ensures a.ns a.es a.held) c.in_err-columns.ensures in
     rw (p.1, p.2) (generator_shown _ _ a.ns a.es _ _ a.is refl (generator_crowded _ a.ns _ _ _ e))
 
-pub first_infinite-k-requires : goal.first_infinite-k-requires
-first_infinite-k-requires c = read_few _ _ _ c.in_ok-cd.ensures
+pub first_infinite-requires : goal.first_infinite-requires
+first_infinite-requires c = read_few _ _ _ c.in_ok-cd.ensures
 
-pub returns-then-k-cd : goal.returns-then-k-cd
-returns-then-k-cd c =
+pub returns-in-Some : goal.returns-in-Some
+returns-in-Some c =
     let a = accepts _ _ c.in_ok-cd.ensures in
     let f = fits _ _ _ (diagram_normals _ a.ns a.es _ _ (c.diagram_matrix.ensures a.ns a.es a.held) c.in_ok-columns.ensures) in
     let n = count_held _ a.ns a.es a.held in
-    let k = c.first_infinite-k.ensures a.ns n (c.values-values.ensures a.ns a.es a.held) in
-    generator_shown _ _ a.ns a.es _ _ a.is f.is (generator_infinite _ a.ns f.square _ k (rw n at c.if-k-cd.true))
+    let first = first_found a.ns _ _ n (read_few _ _ _ c.in_ok-cd.ensures) (c.values-values.ensures a.ns a.es a.held) in
+    generator_shown _ _ a.ns a.es _ _ a.is f.is (generator_infinite _ a.ns f.square _ n _ (sym first ∙ sym c.in-Some.ensures))
 
 pub of-requires : goal.of-requires
 of-requires c = read_few _ _ _ c.in_ok-cd.ensures
@@ -46,5 +45,5 @@ returns c =
     let f = fits _ _ _ (diagram_normals _ a.ns a.es _ _ (c.diagram_matrix.ensures a.ns a.es a.held) c.in_ok-columns.ensures) in
     let n = count_held _ a.ns a.es a.held in
     let v = c.values-values.ensures a.ns a.es a.held in
-    let g = subst (λ k. c.of.result ≡ generator_of k (coordinates c.args.walls f.square k (values a.ns))) n (c.of.ensures f.square (values a.ns) f.held v) in
-    generator_shown _ _ a.ns a.es _ _ a.is f.is (generator_solved _ a.ns f.square _ _ (c.first_infinite-k.ensures a.ns n v) (rw n at c.if-k-cd.false) g)
+    let first = first_found a.ns _ _ n (read_few _ _ _ c.in_ok-cd.ensures) v in
+    generator_shown _ _ a.ns a.es _ _ a.is f.is (generator_solved _ a.ns f.square _ n _ (sym first ∙ sym c.in_default.ensures) (c.of.ensures f.square (values a.ns) f.held v))

@@ -13,4 +13,4 @@ pub returns-then-out-length : goal.returns-then-out-length
 returns-then-out-length g c = rw c.in_ok-x.was (fit_short _ _ _ _ (omega (arith, c.length.ensures, c.if-out-length.true)))
 
 pub returns : goal.returns
-returns g c = rw c.in_ok-x.was (fit_shown _ _ _ _ _ _ (omega (arith, c.length.ensures, c.if-out-length.false)) c.put.ensures c.told.ensures)
+returns g c = rw c.in_ok-x.was (fit_shown _ _ _ _ _ _ _ _ (omega (arith, c.length.ensures, c.if-out-length.false)) c.put.ensures c.told.ensures)

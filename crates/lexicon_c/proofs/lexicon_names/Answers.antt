@@ -1,6 +1,8 @@
 -- `lexicon_c::lexicon_names` meets its contract: there are no more components than nodes.
+use mathlib.Core.Path.{subst}
+use Rattle.lexicon_names.specs.NamesText.{NamesText}
 use Rattle.lexicon_names.proofs.OneAnswer.{names_few}
 use Rattle.lexicon_c.proofs.lexicon_names.Goals as goal
 
-pub show_groups-requires : goal.show_groups-requires
-show_groups-requires c = names_few c.names.ensures
+pub show-requires : goal.show-requires
+show-requires c = λ g is. names_few (subst (NamesText _ _) is c.names.ensures)

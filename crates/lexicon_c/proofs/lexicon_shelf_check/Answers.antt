@@ -1,13 +1,9 @@
 -- `lexicon_c::lexicon_shelf_check` meets its contract.
+use borrow.Author.Rules.{rules}
 use Rattle.cd.specs.Arrays.{padded}
-use Rattle.lexicon_c.proofs.Telling.{tells_answer, tells_refusal}
+use Rattle.lexicon_c.proofs.Telling.{tells_mapped}
 use Rattle.lexicon_c.proofs.lexicon_shelf_check.Goals as goal
 
-pub returns-in-Accepted : goal.returns-in-Accepted
+pub returns : goal.returns
 unfolding padded
-returns-in-Accepted c =
-    record { checked = c.check-c.result; checks = c.check-c.ensures; tells = tells_answer c.in-Accepted.is c.tell.ensures }
-
-pub returns-in-Refused : goal.returns-in-Refused
-returns-in-Refused c =
-    record { checked = c.check-c.result; checks = c.check-c.ensures; tells = tells_refusal c.in-Refused.is c.refuse.ensures }
+returns c = record { checked = c.check.result; checks = c.check.ensures; tells = tells_mapped _ _ _ c.map.ensures.cases (λ n y p. search rules) c.tell.ensures }

@@ -1,13 +1,9 @@
 -- `lexicon_c::lexicon_shelf_rescue` meets its contract.
+use borrow.Author.Rules.{rules}
 use Rattle.cd.specs.Arrays.{padded}
-use Rattle.lexicon_c.proofs.Telling.{tells_answer, tells_refusal}
+use Rattle.lexicon_c.proofs.Telling.{tells_mapped}
 use Rattle.lexicon_c.proofs.lexicon_shelf_rescue.Goals as goal
 
-pub returns-in-Accepted : goal.returns-in-Accepted
+pub returns : goal.returns
 unfolding padded
-returns-in-Accepted c =
-    record { rescued = c.rescue-s.result; rescues = c.rescue-s.ensures; tells = tells_answer c.in-Accepted.is c.tell.ensures }
-
-pub returns-in-Refused : goal.returns-in-Refused
-returns-in-Refused c =
-    record { rescued = c.rescue-s.result; rescues = c.rescue-s.ensures; tells = tells_refusal c.in-Refused.is c.refuse.ensures }
+returns c = record { rescued = c.rescue.result; rescues = c.rescue.ensures; tells = tells_mapped _ _ _ c.map.ensures.cases (λ x y p. search rules) c.tell.ensures }

@@ -1,28 +1,20 @@
 -- `lexicon_c::lexicon_write_record` meets its contract.
-use mathlib.Core.Path.{refl}
+use mathlib.Core.Path.{◌≡◌}
+use borrow.Author.Rules.{rules}
 use Rattle.cd.specs.Arrays.{padded}
 use Rattle.lexicon_c.specs.Calls.{replaced}
-use Rattle.lexicon_c.proofs.Telling.{tells_answer, tells_refusal}
+use Rattle.lexicon_c.proofs.Telling.{tells_mapped}
 use Rattle.lexicon_c.proofs.lexicon_write_record.Goals as goal
+use Rattle.lexicon_c.proofs.lexicon_write_record.Goals.{in-Ok, in_default}
 
-pub returns-in-Accepted : goal.returns-in-Accepted
+pub returns : goal.returns
 unfolding padded replaced
-returns-in-Accepted c =
-    let e = c.in-Accepted.is in
+returns c =
+    let nodes : c.match-r.numbering ≡ replaced c.write_record-r.result c.args.numbering.now =
+    elim c.match-r.branch [ in-Ok w ↦ rw w.in-Ok.is w.numbering-is | in_default w ↦ rw w.in_default.is w.numbering-is ] in
     record {
-      filed = c.write_record-f.result;
-      files = c.write_record-f.ensures;
-      nodes = rw e refl;
-      tells = tells_answer e c.tell.ensures;
-    }
-
-pub returns-in-Refused : goal.returns-in-Refused
-unfolding replaced
-returns-in-Refused c =
-    let e = c.in-Refused.is in
-    record {
-      filed = c.write_record-f.result;
-      files = c.write_record-f.ensures;
-      nodes = rw e refl;
-      tells = tells_refusal e c.refuse.ensures;
+      filed = c.write_record-r.result;
+      files = c.write_record-r.ensures;
+      nodes = nodes;
+      tells = tells_mapped _ _ _ c.map.ensures.cases (λ x y p. search rules) c.tell.ensures;
     }

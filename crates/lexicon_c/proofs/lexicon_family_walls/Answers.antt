@@ -1,7 +1,0 @@
--- `lexicon_c::lexicon_family_walls` meets its contract.
-use Rattle.lent.specs.Shown.{of_square}
-use Rattle.lent.proofs.Showing.{lends_same}
-use Rattle.lexicon_c.proofs.lexicon_family_walls.Goals as goal
-
-pub returns : goal.returns
-returns c = lends_same of_square c.family_walls.ensures c.show_square.ensures

@@ -1,7 +1,0 @@
--- `lexicon_c::lexicon_matrix` meets its contract.
-use Rattle.lent.specs.Shown.{of_square}
-use Rattle.lent.proofs.Showing.{lends_same}
-use Rattle.lexicon_c.proofs.lexicon_matrix.Goals as goal
-
-pub returns : goal.returns
-returns c = lends_same of_square c.matrix.ensures c.show_square.ensures
