@@ -15,7 +15,7 @@ use Rattle.filing.proofs.Searching.{at_plain, plain_front}
 use Rattle.parse.specs.Reading.{Accepted, Refused}
 use Rattle.search.specs.Search.{Smallest}
 use Rattle.tables.specs.Tables.{Holds, table_layout}
-use Rattle.tables.specs.declared.Tables.{Tables}
+use Rattle.tables.specs.declared.entries.Tables.{Tables}
 use Rattle.tables.proofs.TableLayouts.{table_layout_lem}
 use Rattle.readback.specs.ReadBack.{ReadBack, record_of}
 use Rattle.readback.specs.ReadBack as read_back
@@ -25,7 +25,7 @@ use Rattle.readback.proofs.ReadBackLaws.{laid_out_back}
 
 module _ (N : ℕ) (l : List ℕ) (w : IsDiagram N (spelled N l)) (t : Tables) (held : Holds N t (read_back N l)) where
   abbrev laid : (ℕ → ℕ) → List ℕ
-  laid p = table_layout N t.count t.kinds t.bits t.pairs p
+  laid p = table_layout N t p
 
   is : IsDiagram N (read_back N l)
   is = spelled_is_diagram N l w

@@ -200,13 +200,10 @@ pub fn read(s: &[u8]) -> Result<Cd, CdError>
     }
     let cd = spelled(s);
     let t = tables::of(cd);
-    let n = t.count;
-    let laid = records::is_layout(s, &t.kinds, &t.bits, &t.pairs, n, search::plain());
-    if !laid {
+    if !records::is_layout(s, &t, search::plain()) {
         return Err(CdError::NoDiagram); // for a filler
     }
-    let smallest = search::is_smallest(&t.kinds, &t.bits, &t.pairs, n);
-    if !smallest {
+    if !search::is_smallest(&t) {
         return Err(CdError::NotSmallest);
     }
     Ok(cd)

@@ -1,20 +1,26 @@
 -- A buffer written into: bytes one after another, blocks of one length, and two lists over two parts of zeros behind a count. Assumes nothing.
 use mathlib.Core.List.{List, [], ◌∷◌, ◌++◌, append_assoc}
 use mathlib.Core.Path.{◌≡◌, refl, sym, ap, ◌∙◌}
-use Prim.Native.Nat.{ℕ, suc, ◌+◌, ◌-◌, ◌*◌, ◌≤◌, ◌<◌}
-use native.Mathlib.Nat.{zero-add}
-use native.Mathlib.Numerals.{add-one}
+use Prim.Native.Nat.{ℕ, suc, ◌+◌, ◌-◌, ◌*◌, ◌/◌, ◌≤◌, ◌<◌}
 use native.Mathlib.Omega.{arith}
-use lib.ListN.{length, get_or, take, drop, set, replicate, length-replicate, replicate-append-replicate}
-use lib.Seq.{length-take-le, take_at, take-suc, drop_at, drop-drop, sets, sets-eq}
-use Rattle.filing.specs.Bytes.{blocks, filled, written}
-use Rattle.filing.proofs.Bytes.{length_blocks, length_filled, length_written, written_front, written_byte, written_then, written_block}
+use lib.ListN.{length, take, drop, set, replicate, length-replicate, replicate-append-replicate}
+use lib.Seq.{take_at, drop_at, drop-drop}
+use mir.Syntax.{w64}
+use Rattle.std.specs.Int.{to_be_bytes}
+use Rattle.filing.specs.Bytes.{bytes, blocks, filled, written}
+use Rattle.filing.proofs.Bytes.{length_blocks, length_filled, written_front, written_byte, written_then, written_block}
+
+-- ---- a number
+
+pub eight_bytes : (x : ℕ) → to_be_bytes w64 x ≡ bytes 8 x
+unfolding bytes
+eight_bytes x = let e : x / 1 ≡ x = omega arith in rw e
 
 -- ---- a list at once, a byte before a list, a block behind others of one length
 
-pub sets_written : (k : ℕ) (x l : List ℕ) → k + length x ≤ length l → sets l k x ≡ written k x l
+pub part_written : (k : ℕ) (x l : List ℕ) → take k l ++ (x ++ drop (length x) (drop k l)) ≡ written k x l
 unfolding written
-sets_written k x l h = sets-eq x l k h ∙ append_assoc (take k l) x (drop (k + length x) l)
+part_written k x l = rw (drop-drop (length x) k l)
 
 pub byte_then : (k b : ℕ) (x l : List ℕ) → k < length l → written (k + 1) x (set l k b) ≡ written k (b ∷ x) l
 byte_then k b x l h = rw (written_byte k b l h) (written_then k (b ∷ []) x l (omega arith))
@@ -22,16 +28,6 @@ byte_then k b x l h = rw (written_byte k b l h) (written_then k (b ∷ []) x l (
 pub block_then : (k w : ℕ) (g : ℕ → List ℕ) (i : ℕ) (l : List ℕ) → ((j : ℕ) → j < i → length (g j) ≡ w) → k + w * i ≤ length l
     → written (k + w * i) (g i) (written k (blocks g i) l) ≡ written k (blocks g (i + 1)) l
 block_then k w g i l e h = let f = length_blocks g w i e in rw f at (written_block k g i l (rw f h))
-
--- one byte more of a list
-pub put_more : (at : ℕ) (from l : List ℕ) (i : ℕ) → at + length from ≤ length l → i < length from
-    → set (written at (take i from) l) (at + i) (get_or from i 0) ≡ written at (take (i + 1) from) l
-put_more at from l i h k =
-    let e : length (take i from) ≡ i = length-take-le i from (omega arith) in
-    let f = length_written at (take i from) l (omega arith) in
-    written_byte (at + i) (get_or from i 0) (written at (take i from) l) (omega arith)
-    ∙ rw e at (written_then at (take i from) (get_or from i 0 ∷ []) l (omega arith))
-    ∙ ap (λ z. written at z l) (sym (take-suc from i 0 k) ∙ ap (λ n. take n from) (sym (add-one i)))
 
 -- ---- zeros written over
 
@@ -41,11 +37,8 @@ zeros w = replicate w 0
 zeros_split : (a b : ℕ) → zeros (a + b) ≡ zeros a ++ zeros b
 zeros_split a b = sym (replicate-append-replicate a b 0)
 
-pub zero_then : (i : ℕ) (l : List ℕ) → i < length l → set (written 0 (replicate i 0) l) i 0 ≡ written 0 (replicate (i + 1) 0) l
-zero_then i l h =
-    let e : 0 + length (zeros i) ≡ i = simp length-replicate (zero-add i) in
-    let f : i < length (written 0 (zeros i) l) = rw (length_written 0 (zeros i) l (omega arith)) h in
-    written_byte i 0 (written 0 (zeros i) l) f ∙ rw (zeros_split i 1) (rw e at (written_then 0 (zeros i) (0 ∷ []) l (omega arith)))
+pub zeros_front : (m : ℕ) (l : List ℕ) → replicate m 0 ++ drop m l ≡ written 0 (replicate m 0) l
+zeros_front m l = sym (written_front (zeros m) l ∙ ap (λ i. zeros m ++ drop i l) (length-replicate m 0))
 
 pub count_then : (m n : ℕ) (l : List ℕ) → set (written 0 (replicate (suc m) 0) l) 0 n ≡ written 0 (n ∷ replicate m 0) l
 count_then m n l = rw (written_front (zeros (suc m)) l, written_front (n ∷ zeros m) l)

@@ -1,4 +1,6 @@
 -- Laws that belong to no one function.
+pub mod Lists
+pub mod Sides
 pub mod Counting
 pub mod Laid
 pub mod Candidates

@@ -1,25 +1,27 @@
 -- Document 02, tickets K3 and K9: what the search is asked and what it finds. N is the limit of nodes. No public promise leans on this file.
-use Rattle.std.specs.Prelude.{Bool, true, false, List, ◌⊎◌, ◌≡◌, ℕ, ◌-◌, ◌*◌, ◌≤◌, ◌<◌, length, drop}
+use Rattle.std.specs.Prelude.{Bool, true, false, List, ◌⊎◌, ◌≡◌, ◌≢◌, ℕ, ◌-◌, ◌*◌, ◌≤◌, ◌<◌, length, drop}
+use Rattle.std.specs.declared.cmp.Ordering.{Ordering}
+use Rattle.std.specs.declared.cmp.Ordering.TheVariants.{Less, Equal, Greater}
 use Rattle.filing.specs.Bytes.{◌≼◌}
 use Rattle.filing.specs.Groups.{group_factorials}
 use Rattle.filing.specs.Numberings.{Numbering, at, plain}
 use Rattle.tables.specs.Tables.{table_layout, node_at}
-use Rattle.tables.specs.declared.Tables.{Tables}
+use Rattle.tables.specs.declared.entries.Tables.{Tables}
 use Rattle.blocks.specs.Blocks.{base, block, Keyed}
 use Rattle.groups.specs.Groups.{Grouped, Within, ways}
-use Rattle.filing.specs.Sequences.{Agree, Before, AtMost, Side}
+use Rattle.filing.specs.Sequences.{Agree, Before, AtMost}
 use Rattle.blocks.specs.Ranks.{table}
 
 -- r numbers the nodes, no numbering lays out less, and past the nodes it is the plain one
 pub record Smallest (N : ℕ) (t : Tables) (r : List ℕ) : Type 0 where
   pub numbering : Numbering t.count (at r)
-  pub least : (q : ℕ → ℕ) → Numbering t.count q → table_layout N t.count t.kinds t.bits t.pairs (at r) ≼ table_layout N t.count t.kinds t.bits t.pairs q
+  pub least : (q : ℕ → ℕ) → Numbering t.count q → table_layout N t (at r) ≼ table_layout N t q
   pub spare : drop t.count r ≡ drop t.count (plain N)
 
 -- ticket K9: "Of all numberings that give the record, return the first, comparing the list of old nodes in new order as numbers from the left."
 pub record Foremost (N : ℕ) (t : Tables) (r : List ℕ) : Type 0 where
   pub room : length r ≡ N
-  pub first : (q : ℕ → ℕ) → Numbering t.count q → table_layout N t.count t.kinds t.bits t.pairs q ≡ table_layout N t.count t.kinds t.bits t.pairs (at r)
+  pub first : (q : ℕ → ℕ) → Numbering t.count q → table_layout N t q ≡ table_layout N t (at r)
       → AtMost t.count (at r) q
 
 -- "It is proved to lie between 1 and the product of the groups' factorials"
@@ -48,17 +50,17 @@ pub record Best (N n : ℕ) (r ends p b tops : List ℕ) : Type 0 where
   pub wide : length tops ≡ N
   pub topped : (i : ℕ) → i < n → at tops i ≡ block (table N r) (at b) i
 
+-- s tells how f stands to g on the first n places: before it, or the same
+pub record Side (n : ℕ) (f g : ℕ → ℕ) (s : Ordering) : Type 0 where
+  pub low : s ≢ Greater
+  pub before : s ≡ Less → Before n f g
+  pub same : s ≡ Equal → Agree n f g
+
 -- s tells how the first j blocks of p stand to the best's
-pub record Ready (N n j s : ℕ) (r ends p keys b tops : List ℕ) : Type 0 where
+pub record Ready (N n j : ℕ) (s : Ordering) (r ends p keys b tops : List ℕ) : Type 0 where
   pub begun : Begun N n j r ends p keys
   pub best : Best N n r ends p b tops
   pub side : Side j (block (table N r) (at p)) (block (table N r) (at b)) s
-
--- r is the side of what ends with x to what ends with y, s being the side before them
-pub record SideAfter (s x y r : ℕ) : Type 0 where
-  pub low : r < 2
-  pub before : r ≡ 0 → (s ≡ 0) ⊎ (x < y)
-  pub same : r ≡ 1 → (s ≡ 1) × (x ≡ y)
 
 -- p comes no later than q: by blocks, and where these agree by the nodes themselves
 abbrev pub NoLater : (ℕ → ℕ → ℕ) → ℕ → (ℕ → ℕ) → (ℕ → ℕ) → Type 0

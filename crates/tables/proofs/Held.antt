@@ -1,11 +1,10 @@
 -- What tables made of a Cd hold of its diagram. The first stored edge that joins two nodes is what both `between` and `joint` tell, by induction on the
 -- stored edges; an edge's den is above 0, and so only a pair that nothing joins counts as 2/1. Assumes nothing.
-use Prim.Native.Nat.{ℕ, zero, suc, ◌+◌, ◌*◌, ◌<◌}
+use Prim.Native.Nat.{ℕ, ◌+◌, ◌*◌, ◌<◌}
 use mathlib.Core.Bool.{Bool, true, false}
-use mathlib.Core.List.{List, [], ◌∷◌, map}
+use mathlib.Core.List.{List, [], ◌∷◌}
 use mathlib.Core.Logic.{◌≢◌}
 use mathlib.Core.Path.{◌≡◌, refl, sym, ap, ◌∙◌}
-use native.Mathlib.Nat.{not-suc-le-zero, le_of_suc-le-suc}
 use native.Mathlib.Omega.{arith}
 use borrow.Author.Tests.{eq-eqb, ne_eqb}
 use lib.ListN.{length, get_or}
@@ -18,13 +17,12 @@ use Rattle.cd.specs.declared.Node.{Node}
 use Rattle.cd.specs.declared.Node.TheVariants.{Unringed}
 use Rattle.cd.specs.declared.Pair.{Pair}
 use Rattle.cd.specs.declared.Place.{Place}
-use Rattle.cd.proofs.Arrays.{length_padded}
-use Rattle.cd.proofs.Stored.{loaded, count_held, nodes_held, node_held, pairs_held}
+use Rattle.cd.proofs.Stored.{loaded, count_held, node_held, pairs_held}
 use Rattle.filing.specs.Fractions.{Fraction}
 use Rattle.filing.specs.Numberings.{at}
 use Rattle.tables.specs.Diagrams.{filed, two, joint, diagram}
 use Rattle.tables.specs.Tables.{IsKept, spelt, number, pair_number, PairTable, Holds}
-use Rattle.tables.specs.declared.Tables.{Tables}
+use Rattle.tables.specs.declared.entries.Tables.{Tables}
 
 -- ---- the number of a pair's place
 
@@ -48,18 +46,7 @@ number_between k (s ∷ es) i j h = number_picked (joins i j s) k s.edge (betwee
 
 -- ---- the tables of a Cd
 
-at_map : {A : Type 0} (f : A → ℕ) (d : A) (xs : List A) (i : ℕ) → i < length xs → at (map f xs) i ≡ f (get_or xs i d)
-at_map f d [] i h = absurd (not-suc-le-zero h)
-at_map f d (x ∷ xs) zero h = refl
-at_map f d (x ∷ xs) (suc i) h = at_map f d xs i (le_of_suc-le-suc h)
-
 module _ (cd : Cd) (ns : List Node) (es : List Stored) (held : cd ≡ cd_of ns es) where
-  -- of each node, what f tells of it
-  node_table : (f : Place → ℕ) (i : ℕ) → i < limit → at (map f cd.nodes) i ≡ f (place (get_or ns i Unringed))
-  node_table f i h =
-      let long : length cd.nodes ≡ limit = ap length (nodes_held cd ns es held) ∙ length_padded (place Unringed) limit (map place ns) in
-      at_map f (place Unringed) cd.nodes i (omega (arith, long)) ∙ ap f (node_held cd ns es held (place Unringed) i h)
-
   -- the numbers of the pairs
   pub pairs_hold : (pairs : List ℕ) → PairTable limit cd.count cd.pairs pairs → IsKept limit (diagram ns es) → (i j : ℕ) → i < length ns → j < length ns → i ≢ j → at pairs (limit * i + j) ≡ number (joint es i j)
   unfolding diagram number
@@ -71,11 +58,15 @@ module _ (cd : Cd) (ns : List Node) (es : List Stored) (held : cd ≡ cd_of ns e
       ∙ number_between 1 es i j (d.is.edges i j h l ne).den_pos
       ∙ ap spelt (sym (d.lowest_terms i j h l ne))
 
-  pub tables_hold : (t : Tables) → t.count ≡ cd.count → t.kinds ≡ map (λ p. (filed p.node).kind) cd.nodes → t.bits ≡ map (λ p. (filed p.node).bits) cd.nodes → PairTable limit cd.count cd.pairs t.pairs → IsKept limit (diagram ns es) → Holds limit t (diagram ns es)
+  -- the array that f of each node fills
+  abbrev NodeTable : (Place → ℕ) → List ℕ → Type 0
+  NodeTable f xs = (i : ℕ) → i < limit → at xs i ≡ f (get_or cd.nodes i (place Unringed))
+
+  pub tables_hold : (t : Tables) → t.count ≡ cd.count → NodeTable (λ p. (filed p.node).kind) t.kinds → NodeTable (λ p. (filed p.node).bits) t.bits → PairTable limit cd.count cd.pairs t.pairs → IsKept limit (diagram ns es) → Holds limit t (diagram ns es)
   unfolding diagram
   tables_hold t n ks bs ps d = record {
     count = n ∙ count_held cd ns es held;
-    kinds = λ i h. rw ks (node_table (λ p. (filed p.node).kind) i (omega (arith, d.is.few)));
-    bits = λ i h. rw bs (node_table (λ p. (filed p.node).bits) i (omega (arith, d.is.few)));
+    kinds = λ i h. let low : i < limit = omega (arith, d.is.few) in ks i low ∙ ap (λ p. (filed p.node).kind) (node_held cd ns es held (place Unringed) i low);
+    bits = λ i h. let low : i < limit = omega (arith, d.is.few) in bs i low ∙ ap (λ p. (filed p.node).bits) (node_held cd ns es held (place Unringed) i low);
     pairs = pairs_hold t.pairs ps d;
   }

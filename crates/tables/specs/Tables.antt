@@ -16,7 +16,7 @@ use Rattle.filing.specs.Fractions.{Fraction, lowest}
 use Rattle.filing.specs.Numberings.{at}
 use Rattle.filing.specs.Records.{nodes_length, pairs_length}
 use Rattle.tables.specs.Diagrams.{two}
-use Rattle.tables.specs.declared.Tables.{Tables}
+use Rattle.tables.specs.declared.entries.Tables.{Tables}
 
 -- the node's value is not nan
 abbrev pub IsNumber : Node → Type 0
@@ -56,12 +56,6 @@ pair_number p = pick (eqb p.edge.den 0) (spelt two) (spelt (fraction p.edge))
 abbrev pub PairTable : ℕ → ℕ → List Pair → List ℕ → Type 0
 PairTable N n ps r = (i j : ℕ) → i < n → j < N → at r (N * i + j) ≡ pair_number (get_or ps (place_of i j) none)
 
--- the entries fit their bytes
-pub record Fits (t : Tables) : Type 0 where
-  pub kinds : (i : ℕ) → at t.kinds i < 256
-  pub bits : (i : ℕ) → at t.bits i < 2 ^ 64
-  pub pairs : (i : ℕ) → at t.pairs i < 2 ^ 64
-
 -- the node that tables hold
 abbrev pub node_at : Tables → ℕ → filing.Node
 node_at t i = record { kind = at t.kinds i; bits = at t.bits i }
@@ -75,22 +69,22 @@ pub record Holds (N : ℕ) (t : Tables) (d : Diagram) : Type 0 where
 
 -- ---- the layout of tables under a numbering
 
-unfoldable pub table_node : List ℕ → List ℕ → ℕ → List ℕ
+unfoldable pub table_node : Tables → ℕ → List ℕ
 unfolding bytes
-table_node kinds bits v = at kinds v ∷ bytes 8 (at bits v)
+table_node t v = at t.kinds v ∷ bytes 8 (at t.bits v)
 
-unfoldable pub table_nodes : List ℕ → List ℕ → (ℕ → ℕ) → ℕ → List ℕ
+unfoldable pub table_nodes : Tables → (ℕ → ℕ) → ℕ → List ℕ
 unfolding table_node blocks
-table_nodes kinds bits p n = blocks (λ i. table_node kinds bits (p i)) n
+table_nodes t p n = blocks (λ i. table_node t (p i)) n
 
-unfoldable pub table_row : ℕ → List ℕ → (ℕ → ℕ) → ℕ → List ℕ
+unfoldable pub table_row : ℕ → Tables → (ℕ → ℕ) → ℕ → List ℕ
 unfolding bytes blocks
-table_row N pairs p j = blocks (λ i. bytes 8 (at pairs (N * p i + p j))) j
+table_row N t p j = blocks (λ i. bytes 8 (at t.pairs (N * p i + p j))) j
 
-unfoldable pub table_pairs : ℕ → List ℕ → (ℕ → ℕ) → ℕ → List ℕ
+unfoldable pub table_pairs : ℕ → Tables → (ℕ → ℕ) → ℕ → List ℕ
 unfolding table_row blocks
-table_pairs N pairs p n = blocks (table_row N pairs p) n
+table_pairs N t p n = blocks (table_row N t p) n
 
-unfoldable pub table_layout : ℕ → ℕ → List ℕ → List ℕ → List ℕ → (ℕ → ℕ) → List ℕ
+unfoldable pub table_layout : ℕ → Tables → (ℕ → ℕ) → List ℕ
 unfolding table_nodes table_pairs filled
-table_layout N n kinds bits pairs p = n ∷ (filled (nodes_length N) (table_nodes kinds bits p n) ++ filled (pairs_length N) (table_pairs N pairs p n))
+table_layout N t p = t.count ∷ (filled (nodes_length N) (table_nodes t p t.count) ++ filled (pairs_length N) (table_pairs N t p t.count))

@@ -1,24 +1,20 @@
 // The tables of a diagram: what its filing record is made of, for the search to look up.
 #![tactic(auto)]
 
-ghost use Rattle.std.specs.Prelude.{List, map, ◌≡◌, ◌+◌, ◌*◌, ◌≤◌, ◌<◌};
+ghost use Rattle.std.specs.Prelude.{List, ◌≡◌, ◌≤◌};
 ghost use Rattle.cd.specs.Diagrams.{Stored, limit, cd_of};
 ghost use Rattle.cd.specs.declared.Node.{Node as ANode};
-ghost use Rattle.filing.specs.Numberings.{at};
 ghost use Rattle.tables.specs.Diagrams.{filed, diagram};
-ghost use Rattle.tables.specs.Tables.{IsNumber, Numbers, IsKept, pair_number, PairTable, Fits, Holds};
+ghost use Rattle.tables.specs.Tables.{IsNumber, Numbers, IsKept, pair_number, PairTable, Holds};
 
 use cd::{Cd, LIMIT, Node, Pair, SQUARE};
+pub use entries::{Tables, pair_at};
+use std::array;
 
-#[derive(Clone, Copy)]
-pub struct Tables {
-    pub count: usize,
-    pub kinds: [u8; LIMIT],
-    pub bits: [u64; LIMIT],
-    pub pairs: [u64; SQUARE],
-}
+mod entries;
 
 // The number that the eight bytes of a pair spell, whose order is the byte order; 2 and 1 if nothing joins the two.
+#[tactic(auto, using(crate::proofs::Held::number_of_nothing, crate::proofs::Held::number_of_edge), unfolding(crate::specs::Tables::spelt))]
 fn pair_number(p: Pair) -> u64
     ensures { result ≡ pair_number p }
 {
@@ -29,6 +25,7 @@ fn pair_number(p: Pair) -> u64
     e.num as u64 * 0x1_0000_0000 + e.den as u64
 }
 
+#[tactic(auto, unfolding(crate::specs::Diagrams::filed))]
 pub fn kind(n: Node) -> u8
     ensures { result ≡ (filed n).kind }
 {
@@ -40,44 +37,15 @@ pub fn kind(n: Node) -> u8
 }
 
 // The 64 bits of a node's value.
+#[tactic(auto, unfolding(crate::specs::Diagrams::filed))]
 pub fn bits(n: Node) -> u64
     requires { IsNumber n }
     ensures { result ≡ (filed n).bits }
 {
     match n {
         Node::Unringed => 0,
-        Node::Ringed(v) => f64::to_bits(v),
-        Node::Snub(v) => f64::to_bits(v),
+        Node::Ringed(v) | Node::Snub(v) => v.to_bits(),
     }
-}
-
-fn kinds_of(cd: Cd) -> [u8; LIMIT]
-    ensures { result ≡ map (λ p. (filed p.node).kind) cd.nodes }
-{
-    let mut out = [0; LIMIT];
-    for i in 0..LIMIT {
-        let place = cd.nodes[i];
-        let node = place.node;
-        out[i] = kind(node);
-    }
-    out
-}
-
-fn bits_of(cd: Cd) -> [u64; LIMIT]
-    requires { Numbers cd.nodes }
-    ensures { result ≡ map (λ p. (filed p.node).bits) cd.nodes }
-{
-    let mut out = [0; LIMIT];
-    for i in 0..LIMIT {
-        let place = cd.nodes[i];
-        let node = place.node;
-        out[i] = bits(node);
-    }
-    out
-}
-
-fn blank() -> [u64; SQUARE] {
-    [0; SQUARE]
 }
 
 // For the nodes u and v, at LIMIT × u + v, the number of their pair; only the nodes' rows are filled.
@@ -85,11 +53,9 @@ pub fn pairs_of(cd: Cd) -> [u64; SQUARE]
     requires { cd.count ≤ limit }
     ensures { PairTable limit cd.count cd.pairs result }
 {
-    let mut out = blank();
-    let m = LIMIT * cd.count;
-    for k in 0..m {
-        let p = cd.pairs[cd::pair_place(k / LIMIT, k % LIMIT)];
-        out[k] = pair_number(p);
+    let mut out = [0; SQUARE];
+    for k in 0..LIMIT * cd.count {
+        out[k] = pair_number(cd.pairs[cd::pair_place(k / LIMIT, k % LIMIT)]);
     }
     out
 }
@@ -97,34 +63,12 @@ pub fn pairs_of(cd: Cd) -> [u64; SQUARE]
 // Edges are in lowest terms: nothing is divided here.
 pub fn of(cd: Cd) -> Tables
     requires { Numbers cd.nodes × (cd.count ≤ limit) }
-    ensures { (result.count ≡ cd.count) × Fits result × ((ns : List ANode) (es : List Stored) → cd ≡ cd_of ns es → IsKept limit (diagram ns es) → Holds limit result (diagram ns es)) }
+    ensures { (result.count ≡ cd.count) × ((ns : List ANode) (es : List Stored) → cd ≡ cd_of ns es → IsKept limit (diagram ns es) → Holds limit result (diagram ns es)) }
 {
     Tables {
         count: cd.count,
-        kinds: kinds_of(cd),
-        bits: bits_of(cd),
+        kinds: array::from_fn(|v| kind(cd.nodes[v].node)),
+        bits: array::from_fn(|v| bits(cd.nodes[v].node)),
         pairs: pairs_of(cd),
     }
-}
-
-// The entries of tables behind references. (A result is known to fit its type, an element behind a reference is not.)
-pub fn kind_at(kinds: &[u8; LIMIT], v: usize) -> u8
-    requires { v < limit }
-    ensures { result ≡ at kinds.now v }
-{
-    kinds[v]
-}
-
-pub fn bits_at(bits: &[u64; LIMIT], v: usize) -> u64
-    requires { v < limit }
-    ensures { result ≡ at bits.now v }
-{
-    bits[v]
-}
-
-pub fn pair_at(pairs: &[u64; SQUARE], u: usize, v: usize) -> u64
-    requires { (u < limit) × (v < limit) }
-    ensures { result ≡ at pairs.now (limit * u + v) }
-{
-    pairs[LIMIT * u + v]
 }

@@ -5,6 +5,4 @@ use Rattle.records.proofs.Layouts.{layout_written}
 use Rattle.records.proofs.lay.Goals as goal
 
 pub returns : goal.returns
-returns c =
-    let a = c.args in
-    cc (layout_written limit a.n a.kinds.now a.bits.now a.pairs.now (at a.p) c.requires.0 a.out.now)
+returns c = let a = c.args in cc (layout_written limit a.t.now (at a.p.now) a.t.now.few a.out.now)

@@ -1,8 +1,7 @@
 -- `records::put_pairs` meets its contract; Invariants.antt has the argument.
-use mathlib.Core.Path.{◌≡◌, refl, sym, ◌∙◌}
+use mathlib.Core.Path.{refl, sym}
 use Prim.Native.Nat.{◌+◌}
 use native.Mathlib.Omega.{arith}
-use borrow.Author.Rules.{rules}
 use Rattle.cd.specs.Diagrams.{limit}
 use Rattle.filing.specs.Bytes.{blocks}
 use Rattle.filing.specs.Numberings.{at}
@@ -14,33 +13,21 @@ use Rattle.records.proofs.put_pairs.Goals as goal
 
 pub loop-j-init : goal.loop-j-init
 unfolding table_pairs blocks
-loop-j-init c = (search rules, refl, refl, sym (written_nil _ _))
+loop-j-init c = (refl, sym (written_nil _ _))
 
 pub put_row-requires : goal.put_row-requires
 put_row-requires c =
-    (c.requires.0, search rules, c.requires.1, omega (arith, row_fits limit c.args.pairs.now (at c.args.p) c.loop-j.j (omega arith)))
+    let a = c.args in
+    (c.loop-j-test.true, c.requires.0, omega (arith, row_fits limit a.t.now (at a.p.now) c.loop-j.j (omega (arith, a.t.now.few))))
 
 pub overflow_add-k : goal.overflow_add-k
-overflow_add-k c =
-    omega (arith, row_fits limit c.args.pairs.now (at c.args.p) c.loop-j.j (omega arith))
+overflow_add-k c = let a = c.args in omega (arith, row_fits limit a.t.now (at a.p.now) c.loop-j.j (omega (arith, a.t.now.few)))
 
 pub loop-j-preserved : goal.loop-j-preserved
 loop-j-preserved c =
-    let q = c.put_row in
-    let l = c.loop-j in
-    let a = c.args in (
-      search rules,
-      omega (arith, pairs_more limit a.pairs.now (at a.p) l.j),
-      q.auto.out ∙ l.invariant.2,
-      (cc (row_then limit a.pairs.now (at a.p) (1 + nodes_length limit) l.j a.out.now (omega (arith, row_fits limit a.pairs.now (at a.p) l.j (omega arith))))),
-    )
-
-pub shape_of-out : goal.shape_of-out
-shape_of-out c = c.loop-j.invariant.2
-
-pub returns : goal.returns
-returns c =
-    let l = c.loop-j in
     let a = c.args in
-    let e : l.j ≡ a.n = omega arith in
-    rw e at l.invariant.3
+    let j = c.loop-j.j in
+    let fits = row_fits limit a.t.now (at a.p.now) j (omega (arith, a.t.now.few)) in (
+      omega (arith, pairs_more limit a.t.now (at a.p.now) j),
+      (cc (row_then limit a.t.now (at a.p.now) (1 + nodes_length limit) j a.out.now (omega (arith, fits)))),
+    )

@@ -1,6 +1,6 @@
 -- `records::put_pairs` meets its contract. The invariant: the rows passed are written, and k is where the next one goes.
 use mathlib.Core.Path.{◌≡◌}
-use Prim.Native.Nat.{◌+◌, ◌-◌, ◌≤◌}
+use Prim.Native.Nat.{◌+◌}
 use lib.ListN.{length}
 use Rattle.cd.specs.Diagrams.{limit}
 use Rattle.filing.specs.Bytes.{written}
@@ -11,8 +11,5 @@ use Rattle.records.proofs.put_pairs.Given as goal
 
 abbrev pub invariant-loop-j : goal.invariant-loop-j
 invariant-loop-j l =
-    (l.j ≤ l.n) × (l.k ≡ 1 + nodes_length limit + length (table_pairs limit l.pairs (at l.p) l.j)) × (length l.out ≡ length l.initial.out)
-    × (l.out ≡ written (1 + nodes_length limit) (table_pairs limit l.pairs (at l.p) l.j) l.initial.out)
-
-abbrev pub decreases-loop-j : goal.decreases-loop-j
-decreases-loop-j l = l.n - l.j
+    (l.k ≡ 1 + nodes_length limit + length (table_pairs limit l.t (at l.p) l.j))
+    × (l.out ≡ written (1 + nodes_length limit) (table_pairs limit l.t (at l.p) l.j) l.initial.out)

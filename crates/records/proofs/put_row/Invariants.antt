@@ -1,7 +1,5 @@
 -- `records::put_row` meets its contract. The invariant: the pairs passed are written.
 use mathlib.Core.Path.{◌≡◌}
-use Prim.Native.Nat.{◌-◌, ◌≤◌}
-use lib.ListN.{length}
 use Rattle.cd.specs.Diagrams.{limit}
 use Rattle.filing.specs.Bytes.{blocks, written}
 use Rattle.filing.specs.Numberings.{at}
@@ -9,7 +7,4 @@ use Rattle.records.proofs.Layouts.{pair_of}
 use Rattle.records.proofs.put_row.Given as goal
 
 abbrev pub invariant-loop-i : goal.invariant-loop-i
-invariant-loop-i l = (l.i ≤ l.j) × (length l.out ≡ length l.initial.out) × (l.out ≡ written l.k (blocks (pair_of limit l.pairs (at l.p) l.j) l.i) l.initial.out)
-
-abbrev pub decreases-loop-i : goal.decreases-loop-i
-decreases-loop-i l = l.j - l.i
+invariant-loop-i l = l.out ≡ written l.k (blocks (pair_of limit l.t (at l.p) l.j) l.i) l.initial.out

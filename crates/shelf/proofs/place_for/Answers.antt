@@ -6,9 +6,6 @@ use Rattle.cd.proofs.Decided.{refutes}
 use Rattle.shelf.specs.Bisects.{none_left, in_front, behind}
 use Rattle.shelf.proofs.place_for.Goals as goal
 
-pub loop-low-init : goal.loop-low-init
-loop-low-init c = (omega arith, λ p b. b)
-
 pub loop-low-preserved-then-no_greater : goal.loop-low-preserved-then-no_greater
 loop-low-preserved-then-no_greater c =
     let l = c.loop-low in

@@ -1,0 +1,13 @@
+-- `blocks::Trial::of` meets its contract. The invariant: the blocks up to place j are there.
+use mathlib.Core.Path.{◌≡◌}
+use Prim.Native.Nat.{◌*◌}
+use lib.ListN.{length}
+use Rattle.cd.specs.Diagrams.{limit}
+use Rattle.filing.specs.Numberings.{at}
+use Rattle.blocks.specs.Blocks.{Keyed}
+use Rattle.blocks.specs.Ranks.{table}
+use Rattle.blocks.proofs.Trial.of.Given as goal
+
+abbrev pub invariant-loop-j : goal.invariant-loop-j
+invariant-loop-j l =
+    (l.trial.nodes ≡ l.fn.nodes) × (length l.trial.keys ≡ limit * limit) × Keyed limit (table limit l.r.pairs) l.r.count l.j (at l.fn.nodes) l.trial.keys

@@ -1,0 +1,20 @@
+-- `blocks::Ranks::of` meets its contract; Invariants.antt has the argument.
+use mathlib.Core.Path.{refl}
+use native.Mathlib.Omega.{arith}
+use native.Mathlib.Nat.{not-suc-le-zero}
+use Prim.Native.Nat.{◌*◌}
+use Rattle.cd.specs.Diagrams.{limit}
+use Rattle.blocks.specs.Blocks.{base}
+use Rattle.blocks.specs.Ranks.{table}
+use Rattle.blocks.proofs.Ranking.{ranked}
+use Rattle.blocks.proofs.Rows.{zeros_low}
+use Rattle.blocks.proofs.ranks.Ranks.of.Goals as goal
+
+pub loop-u-init : goal.loop-u-init
+loop-u-init c = (zeros_low base (limit * limit) (omega arith), λ w h. absurd (not-suc-le-zero h))
+
+pub returns : goal.returns
+returns c = (
+  refl,
+  ranked c.of-list.result c.args.t.now.count (table limit c.args.t.now.pairs) (table limit c.loop-u.pairs) c.of-list.ensures (λ u v hu hv. c.loop-u.invariant.1 u (omega arith) v hv),
+)
