@@ -2,95 +2,62 @@
 // oracle/names.py has the form of the answers.
 #![tactic(auto)]
 
-ghost use Rattle.std.specs.Prelude.{◌+◌, ◌*◌, ◌≤◌, length};
+ghost use Rattle.std.specs.Prelude.{◌+◌, ◌*◌};
 ghost use Rattle.cd.specs.Diagrams.{limit};
+ghost use Rattle.lines.specs.Written.{HasRoom, AddsAtMost};
 
 use cd::LIMIT;
 use group_names::{Group, Groups, Name};
-use parse::Answer;
+use lines::Answers;
 
 // A space, and the name as the ticket writes it: ` A3`, ` I2(7)`.
-fn put_name(out: &mut [u8], at: usize, x: Name) -> usize
-    requires { at + 25 ≤ length out.old }
-    ensures { result ≤ at + 25 }
+fn put_name(out: &mut Answers, x: Name)
+    requires { HasRoom 25 out.old }
+    ensures { AddsAtMost 25 out.old out.new }
 {
     let w = group_names::written(x);
-    let to = lines::put(out, at, b' ');
+    out.push(b' ');
     if w.letter == b'I' {
-        let open = lines::put_all(out, to, b"I2");
-        let end = lines::put_number(out, open, b'(', w.number);
-        return lines::put(out, end, b')');
+        lines::put_all(out, b"I2");
+        lines::put_number(out, b'(', w.number);
+        out.push(b')');
+    } else {
+        lines::put_number(out, w.letter, w.number);
     }
-    lines::put_number(out, to, w.letter, w.number)
 }
 
-fn put_group(out: &mut [u8], at: usize, g: Group) -> usize
-    requires { at + 67 ≤ length out.old }
-    ensures { result ≤ at + 67 }
+fn put_group(out: &mut Answers, g: &Group)
+    requires { HasRoom 67 out.old }
+    ensures { AddsAtMost 67 out.old out.new }
 {
-    let name = g.name;
-    let node = lines::put_number(out, at, b' ', g.node as u64);
-    let to = put_name(out, node, name);
-    lines::put_number(out, to, b' ', g.order)
+    lines::put_number(out, b' ', g.node as u64);
+    put_name(out, g.name);
+    lines::put_number(out, b' ', g.order);
 }
 
-// The first n.
-fn put_groups(out: &mut [u8], at: usize, groups: [Group; LIMIT], n: usize) -> usize
-    requires { at + 67 * limit ≤ length out.old }
-    ensures { result ≤ at + 67 * limit }
+// (By the lesser of two limits, so that no law of the library is needed.)
+fn put_groups(out: &mut Answers, groups: &Groups)
+    requires { HasRoom (67 * limit) out.old }
+    ensures { AddsAtMost (67 * limit) out.old out.new }
 {
-    let mut to = at;
-    let mut i = 0;
-    // Both limits are tested, so that no law of the library is needed.
-    while i < LIMIT {
-        if n <= i {
-            return to;
-        }
-        to = put_group(out, to, groups[i]);
-        i += 1;
+    for g in &groups.at[..groups.count.min(LIMIT)] {
+        put_group(out, g);
     }
-    to
 }
 
 // `ok` and how many components there are, then each; or `no` and the figures.
-fn put_answer(out: &mut [u8], at: usize, g: Groups) -> usize
-    requires { at + 67 * limit + 23 ≤ length out.old }
-    ensures { result ≤ at + 67 * limit + 23 }
+fn line(text: &[u8], out: &mut Answers)
+    requires { HasRoom (67 * limit + 87) out.old }
 {
-    let a = g.answer;
-    match a {
-        Answer::Accepted => {
-            let groups = g.at;
-            let ok = lines::put_all(out, at, b"ok");
-            let to = lines::put_number(out, ok, b' ', g.count as u64);
-            put_groups(out, to, groups, g.count)
-        }
-        Answer::Refused(e) => {
-            let to = lines::put_all(out, at, b"no");
-            lines::put_numbers(out, to, cd::figures(e))
-        }
+    let r = lexicon_names::names(text, true);
+    lines::put_outcome(out, r.map(|groups| [groups.count]));
+    if let Ok(groups) = r {
+        put_groups(out, &groups);
     }
-}
-
-fn line(text: &[u8], out: &mut [u8], at: usize) -> usize
-    requires { at + 67 * limit + 24 ≤ length out.old }
-    ensures { result ≤ at + 67 * limit + 24 }
-{
-    let to = put_answer(out, at, lexicon_names::names(text, true));
-    lines::put(out, to, b'\n')
+    out.push(b'\n');
 }
 
 fn main(rt: HostRuntime) {
     let mut text = lines::large_input();
-    let n = lines::read_input(&rt, &mut text);
-    let mut out = lines::buffer();
-    let mut at = 0;
-    let mut from = 0;
-    while from < n {
-        let end = lines::line_end(&text[..n], from);
-        at = line(&text[from..end], &mut out, at);
-        at = lines::flushed(&rt, &out, at);
-        from = end + 1;
-    }
-    lines::write_output(&rt, &out[..at]);
+    lines::answer_lines(&rt, &mut text, line);
 }
