@@ -37,7 +37,7 @@ fn reflection(units: &[f64; SQUARE], m: &[f64; SQUARE], i: usize, n: usize) -> [
     let square = cox::dot(mirror, mirror);
     let factor = |c| 2.0 * cox::dot(cox::column(units, c, n), mirror) / square;
     let factors: [f64; LIMIT] = std::array::from_fn(factor);
-    cox::square(|c, r| units[LIMIT * c + r] - m[LIMIT * i + r] * factors[c])
+    cox::square(|c, r| unit(c, r) - m[LIMIT * i + r] * factors[c])
 }
 
 pub fn of(m: &[f64; SQUARE], n: usize) -> Reflections
