@@ -1,5 +1,5 @@
 -- Document 01, "Nodes and edges": "Letters, each operation rounded once (IEEE 754 binary64)".
-use Rattle.std.specs.Prelude.{ℕ, List, [], ◌∷◌, eqb}
+use Rattle.std.specs.Prelude.{ℕ, List, [], ◌∷◌, eqb, Option, Some, None}
 use Prim.Native.Char.{Char, code}
 use Rattle.float.specs.Pick.{pick}
 use Rattle.float.specs.Numbers.{whole, ◌+ᶠ◌, ◌-ᶠ◌, ◌*ᶠ◌, ◌/ᶠ◌}
@@ -7,8 +7,6 @@ use Rattle.float.specs.Constants.{R2, R3, R5}
 use Rattle.float.specs.Root.{root_of}
 use Rattle.cd.specs.declared.Node.{Node}
 use Rattle.cd.specs.declared.Node.TheVariants.{Unringed, Ringed, Snub}
-use Rattle.cd.specs.declared.Letter.{Letter}
-use Rattle.cd.specs.declared.Letter.TheVariants.{Stands, Unknown}
 
 pub record Entry : Type 0 where
   pub letter : Char
@@ -43,10 +41,10 @@ letters =
     []
 
 -- the first entry of the letter; "Other characters are no node."
-unfoldable pub find : List Entry → ℕ → Letter
-find [] b = Unknown
-find (e ∷ es) b = let r = find es b in pick (eqb b (code e.letter)) (Stands e.node) r
+unfoldable pub find : List Entry → ℕ → Option Node
+find [] b = None
+find (e ∷ es) b = let r = find es b in pick (eqb b (code e.letter)) (Some e.node) r
 
-unfoldable pub letter_of : ℕ → Letter
+unfoldable pub letter_of : ℕ → Option Node
 unfolding find letters
 letter_of b = find letters b

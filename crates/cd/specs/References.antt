@@ -1,24 +1,22 @@
 -- Document 01, "Nodes and edges": "A reference is an index, or an offset k from the end, meaning node count − 1 − k."
-use Rattle.std.specs.Prelude.{ℕ, ◌-◌, ltb}
+use Rattle.std.specs.Prelude.{ℕ, ◌-◌, ltb, Option, Some, None}
 use Rattle.float.specs.Pick.{pick}
 use Rattle.cd.specs.Edges.{is_two}
 use Rattle.cd.specs.declared.EdgeRef.{EdgeRef}
 use Rattle.cd.specs.declared.NodeRef.{NodeRef}
 use Rattle.cd.specs.declared.NodeRef.TheVariants.{Absolute, Negative}
-use Rattle.cd.specs.declared.Found.{Found}
-use Rattle.cd.specs.declared.Found.TheVariants.{At, Missing}
 use Rattle.cd.specs.declared.Ends.{Ends}
 use Rattle.cd.specs.declared.Ends.TheVariants as ends
 
--- the node meant, of n
-unfoldable pub index_of : NodeRef → ℕ → Found
-index_of (Absolute k) n = pick (ltb k n) (At k) Missing
-index_of (Negative k) n = pick (ltb k n) (At (n - 1 - k)) Missing
+-- the node meant, of n, if there is one
+unfoldable pub index_of : NodeRef → ℕ → Option ℕ
+index_of (Absolute k) n = pick (ltb k n) (Some k) None
+index_of (Negative k) n = pick (ltb k n) (Some (n - 1 - k)) None
 
-unfoldable pub both_of : Found → Found → Ends
-both_of Missing b = ends.Missing
-both_of (At a) Missing = ends.Missing
-both_of (At a) (At b) = ends.Both a b
+unfoldable pub both_of : Option ℕ → Option ℕ → Ends
+both_of None b = ends.Missing
+both_of (Some a) None = ends.Missing
+both_of (Some a) (Some b) = ends.Both a b
 
 -- "a two is dropped unseen; otherwise both references must exist"
 unfoldable pub ends_of : EdgeRef → ℕ → Ends

@@ -73,7 +73,7 @@ pub enum CdError {
     InfiniteLength { pos: usize },
 }
 
-// A few numbers: the first `count` of `at`.
+// A few numbers: the first `count` of `at`. (A count beside an array, since no heap is used and C is lent both.)
 #[derive(Clone, Copy)]
 pub struct Numbers {
     pub at: [usize; 4],
@@ -81,58 +81,36 @@ pub struct Numbers {
 }
 
 // A refusal's number in document 01 and its fields, in the order given there; zeros past them.
+#[tactic(auto, unfolding(crate::specs::Refusals::number_of, crate::specs::Arrays::padded))]
 pub fn figures(e: CdError) -> Numbers
     ensures { (take result.count result.at ≡ number_of e) × (result.count ≤ 4) × (result.at ≡ padded 0 4 (number_of e)) }
 {
-    match e {
-        CdError::TooLong { pos } => one_field(1, pos),
-        CdError::NotAscii { pos } => one_field(2, pos),
-        CdError::MismatchedParenthesis { pos } => one_field(3, pos),
-        CdError::UnexpectedEnding { pos } => one_field(4, pos),
-        CdError::ParseError { pos } => one_field(5, pos),
-        CdError::InvalidSymbol { pos } => one_field(6, pos),
-        CdError::InvalidEdge { num, den, pos } => Numbers {
-            at: [7, num as usize, den as usize, pos],
-            count: 4,
-        },
-        CdError::RepeatEdge { a, b } => Numbers {
-            at: [8, a, b, 0],
-            count: 3,
-        },
-        CdError::OutOfRange { pos } => one_field(9, pos),
-        CdError::TooManyNodes { pos } => one_field(10, pos),
-        CdError::MissingNode { edge } => one_field(11, edge),
-        CdError::ShortBuffer => no_field(12),
-        CdError::RecordLength => no_field(13),
-        CdError::NoDiagram => no_field(14),
-        CdError::Crowded { column } => one_field(15, column),
-        CdError::Infinite { node } => one_field(16, node),
-        CdError::NoFamily => no_field(17),
-        CdError::ShelfLength => no_field(18),
-        CdError::ShelfPlace { place } => one_field(19, place),
-        CdError::OnShelf { place } => one_field(20, place),
-        CdError::NoName { node } => one_field(21, node),
-        CdError::NotSmallest => no_field(22),
-        CdError::InfiniteLength { pos } => one_field(23, pos),
-    }
-}
-
-fn one_field(number: usize, field: usize) -> Numbers
-    ensures { (take result.count result.at ≡ number ∷ field ∷ []) × (result.count ≤ 4) × (result.at ≡ number ∷ field ∷ 0 ∷ 0 ∷ []) }
-{
-    Numbers {
-        at: [number, field, 0, 0],
-        count: 2,
-    }
-}
-
-fn no_field(number: usize) -> Numbers
-    ensures { (take result.count result.at ≡ number ∷ []) × (result.count ≤ 4) × (result.at ≡ number ∷ 0 ∷ 0 ∷ 0 ∷ []) }
-{
-    Numbers {
-        at: [number, 0, 0, 0],
-        count: 1,
-    }
+    let (at, count) = match e {
+        CdError::TooLong { pos } => ([1, pos, 0, 0], 2),
+        CdError::NotAscii { pos } => ([2, pos, 0, 0], 2),
+        CdError::MismatchedParenthesis { pos } => ([3, pos, 0, 0], 2),
+        CdError::UnexpectedEnding { pos } => ([4, pos, 0, 0], 2),
+        CdError::ParseError { pos } => ([5, pos, 0, 0], 2),
+        CdError::InvalidSymbol { pos } => ([6, pos, 0, 0], 2),
+        CdError::InvalidEdge { num, den, pos } => ([7, num as usize, den as usize, pos], 4),
+        CdError::RepeatEdge { a, b } => ([8, a, b, 0], 3),
+        CdError::OutOfRange { pos } => ([9, pos, 0, 0], 2),
+        CdError::TooManyNodes { pos } => ([10, pos, 0, 0], 2),
+        CdError::MissingNode { edge } => ([11, edge, 0, 0], 2),
+        CdError::ShortBuffer => ([12, 0, 0, 0], 1),
+        CdError::RecordLength => ([13, 0, 0, 0], 1),
+        CdError::NoDiagram => ([14, 0, 0, 0], 1),
+        CdError::Crowded { column } => ([15, column, 0, 0], 2),
+        CdError::Infinite { node } => ([16, node, 0, 0], 2),
+        CdError::NoFamily => ([17, 0, 0, 0], 1),
+        CdError::ShelfLength => ([18, 0, 0, 0], 1),
+        CdError::ShelfPlace { place } => ([19, place, 0, 0], 2),
+        CdError::OnShelf { place } => ([20, place, 0, 0], 2),
+        CdError::NoName { node } => ([21, node, 0, 0], 2),
+        CdError::NotSmallest => ([22, 0, 0, 0], 1),
+        CdError::InfiniteLength { pos } => ([23, pos, 0, 0], 2),
+    };
+    Numbers { at, count }
 }
 
 #[derive(Clone, Copy)]
@@ -148,7 +126,7 @@ pub struct Pair {
     pub edge: Edge,
 }
 
-// A diagram: its nodes in the order read, and a place for each pair, loops included.
+// A diagram: its nodes in the order read, and a place for each pair, loops included. (Arrays and counts, since no heap is used.)
 #[derive(Clone, Copy)]
 pub struct Cd {
     pub nodes: [Place; LIMIT],
@@ -157,73 +135,62 @@ pub struct Cd {
     pub edges: usize,
 }
 
-// The node that a letter stands for, if it does.
-#[derive(Clone, Copy)]
-pub enum Letter {
-    Stands(Node),
-    Unknown,
-}
-
 // The root of R2 + 2.
 const ROOT: f64 = 1.8477590650225735;
 
-pub fn from_char(c: u8) -> Letter
+// The node that a letter stands for, if it does.
+#[tactic(auto, unfolding(crate::specs::Letters::letter_of, crate::specs::Letters::letters, crate::specs::Letters::find))]
+pub fn from_char(c: u8) -> Option<Node>
     ensures { result ≡ letter_of c }
 {
-    match c {
-        b'o' => Letter::Stands(Node::Unringed),
-        b's' => Letter::Stands(Node::Snub(1.0)),
-        b'v' => Letter::Stands(Node::Ringed((float::constants::SQRT_5 - 1.0) / 2.0)),
-        b'x' => Letter::Stands(Node::Ringed(1.0)),
-        b'q' => Letter::Stands(Node::Ringed(float::constants::SQRT_2)),
-        b'f' => Letter::Stands(Node::Ringed((float::constants::SQRT_5 + 1.0) / 2.0)),
-        b'h' => Letter::Stands(Node::Ringed(float::constants::SQRT_3)),
-        b'k' => Letter::Stands(Node::Ringed(ROOT)),
-        b'u' => Letter::Stands(Node::Ringed(2.0)),
-        b'w' => Letter::Stands(Node::Ringed(float::constants::SQRT_2 + 1.0)),
-        b'F' => Letter::Stands(Node::Ringed((float::constants::SQRT_5 + 3.0) / 2.0)),
-        b'e' => Letter::Stands(Node::Ringed(float::constants::SQRT_3 + 1.0)),
-        b'Q' => Letter::Stands(Node::Ringed(float::constants::SQRT_2 * 2.0)),
-        b'd' => Letter::Stands(Node::Ringed(3.0)),
-        b'V' => Letter::Stands(Node::Ringed(float::constants::SQRT_5 + 1.0)),
-        b'U' => Letter::Stands(Node::Ringed(float::constants::SQRT_2 + 2.0)),
-        b'A' => Letter::Stands(Node::Ringed((float::constants::SQRT_5 + 1.0) / 4.0 + 1.0)),
-        b'X' => Letter::Stands(Node::Ringed(float::constants::SQRT_2 * 2.0 + 1.0)),
-        b'B' => Letter::Stands(Node::Ringed(float::constants::SQRT_5 + 2.0)),
-        _ => Letter::Unknown,
-    }
+    let length = match c {
+        b'o' => return Some(Node::Unringed),
+        b's' => return Some(Node::Snub(1.0)),
+        b'v' => (float::constants::SQRT_5 - 1.0) / 2.0,
+        b'x' => 1.0,
+        b'q' => float::constants::SQRT_2,
+        b'f' => (float::constants::SQRT_5 + 1.0) / 2.0,
+        b'h' => float::constants::SQRT_3,
+        b'k' => ROOT,
+        b'u' => 2.0,
+        b'w' => float::constants::SQRT_2 + 1.0,
+        b'F' => (float::constants::SQRT_5 + 3.0) / 2.0,
+        b'e' => float::constants::SQRT_3 + 1.0,
+        b'Q' => float::constants::SQRT_2 * 2.0,
+        b'd' => 3.0,
+        b'V' => float::constants::SQRT_5 + 1.0,
+        b'U' => float::constants::SQRT_2 + 2.0,
+        b'A' => (float::constants::SQRT_5 + 1.0) / 4.0 + 1.0,
+        b'X' => float::constants::SQRT_2 * 2.0 + 1.0,
+        b'B' => float::constants::SQRT_5 + 2.0,
+        _ => return None,
+    };
+    Some(Node::Ringed(length))
 }
 
 // Whether two numbers are an edge.
+#[tactic(auto, unfolding(crate::specs::Edges::is_edge))]
 pub fn is_edge(num: u32, den: u32) -> bool
     ensures { result ≡ is_edge num den }
 {
-    if num <= 1 {
-        return false;
-    }
-    if den == 0 {
-        return false;
-    }
-    den < num
+    1 < num && den != 0 && den < num
 }
 
 // Whether an edge is worth 2, taken without wrapping.
+#[tactic(auto, unfolding(crate::specs::Edges::is_two))]
 pub fn eq_two(e: Edge) -> bool
     ensures { result ≡ is_two e }
 {
-    e.num as u64 == 2 * (e.den as u64)
+    u64::from(e.num) == 2 * u64::from(e.den)
 }
 
 // The greatest common divisor, by Euclid's algorithm, which a remainder of 1 ends too.
 fn gcd(a: u32, b: u32) -> u32
     ensures { result ≡ the_gcd a b }
 {
-    let mut x = a;
-    let mut y = b;
+    let (mut x, mut y) = (a, b);
     while 1 < y {
-        let rest = x % y;
-        x = y;
-        y = rest;
+        (x, y) = (y, x % y);
     }
     if y == 1 { 1 } else { x }
 }
@@ -233,50 +200,31 @@ pub fn reduced(e: Edge) -> Edge
     requires { 0 < e.den }
     ensures { result ≡ the_reduced e }
 {
-    let rest = e.num % e.den;
-    if 1 < rest {
-        let g = gcd(e.den, rest);
-        let num = e.num / g;
-        let den = e.den / g;
-        return Edge { num: num, den: den };
-    }
-    if rest == 0 {
-        return Edge {
+    match e.num % e.den {
+        0 => Edge {
             num: e.num / e.den,
             den: 1,
-        };
+        },
+        1 => e,
+        rest => {
+            let g = gcd(e.den, rest);
+            Edge {
+                num: e.num / g,
+                den: e.den / g,
+            }
+        }
     }
-    e
 }
 
-// Where a reference leads.
-#[derive(Clone, Copy)]
-pub enum Found {
-    At(usize),
-    Missing,
-}
-
-// The node that a reference means, of len nodes.
-pub fn index(r: NodeRef, len: usize) -> Found
+// The node that a reference means, of len nodes, if there is one.
+#[tactic(auto, unfolding(crate::specs::References::index_of))]
+pub fn index(r: NodeRef, len: usize) -> Option<usize>
     ensures { result ≡ index_of r len }
 {
     match r {
-        NodeRef::Absolute(k) => {
-            let i = k as usize;
-            if i < len {
-                Found::At(i)
-            } else {
-                Found::Missing
-            }
-        }
-        NodeRef::Negative(k) => {
-            let i = k as usize;
-            if i < len {
-                Found::At(len - 1 - i)
-            } else {
-                Found::Missing
-            }
-        }
+        NodeRef::Absolute(k) if usize::from(k) < len => Some(usize::from(k)),
+        NodeRef::Negative(k) if usize::from(k) < len => Some(len - 1 - usize::from(k)),
+        _ => None,
     }
 }
 
@@ -290,21 +238,16 @@ pub enum Ends {
 }
 
 // The nodes that an edge joins, of len.
+#[tactic(auto, unfolding(crate::specs::References::ends_of, crate::specs::References::both_of))]
 pub fn indices(e: EdgeRef, len: usize) -> Ends
     ensures { result ≡ ends_of e len }
 {
-    let edge = e.edge;
-    if eq_two(edge) {
+    if eq_two(e.edge) {
         return Ends::Dropped;
     }
-    let first = e.first;
-    let other = e.other;
-    match index(first, len) {
-        Found::Missing => Ends::Missing,
-        Found::At(a) => match index(other, len) {
-            Found::Missing => Ends::Missing,
-            Found::At(b) => Ends::Both(a, b),
-        },
+    match (index(e.first, len), index(e.other, len)) {
+        (Some(a), Some(b)) => Ends::Both(a, b),
+        _ => Ends::Missing,
     }
 }
 

@@ -3,13 +3,6 @@ ghost use Rattle.std.specs.Prelude.{true, ◌≡◌, ◌≤◌, ◌^◌};
 ghost use Rattle.float.specs.Numbers.{whole};
 ghost use Rattle.float.specs.Decimal.{in_range, value, decimal_of};
 
-#[derive(Clone, Copy)]
-pub enum Literal {
-    Value(f64),
-    // Another power of ten than the port takes.
-    OutOfRange,
-}
-
 // The powers of ten that a double holds exactly.
 const TENS: [f64; 23] = [
     1e0, 1e1, 1e2, 1e3, 1e4, 1e5, 1e6, 1e7, 1e8, 1e9, 1e10, 1e11, 1e12, 1e13, 1e14, 1e15, 1e16,
@@ -44,18 +37,14 @@ fn value(w: u64, p: i64) -> f64
     }
 }
 
-// The literal's value; a minus is applied last.
-pub fn decimal(w: u64, p: i64, minus: bool) -> Literal
+// The literal's value, if the table has its power of ten; a minus is applied last.
+pub fn decimal(w: u64, p: i64, minus: bool) -> Option<f64>
     requires { w ≤ 2 ^ 53 }
     ensures { result ≡ decimal_of w p minus }
 {
     if !in_range(p) {
-        return Literal::OutOfRange;
+        return None;
     }
     let v = value(w, p);
-    if minus {
-        Literal::Value(-v)
-    } else {
-        Literal::Value(v)
-    }
+    Some(if minus { -v } else { v })
 }

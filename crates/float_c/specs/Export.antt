@@ -1,10 +1,8 @@
--- A literal's value as one double: C has no enum that holds a value.
-use Rattle.std.specs.Prelude.{Float}
+-- A literal's value as one double: C has no type that may hold no value.
+use Rattle.std.specs.Prelude.{Float, Option, Some, None}
 use Rattle.std.specs.Float.{nan}
-use Rattle.float.specs.declared.decimal.Literal.{Literal}
-use Rattle.float.specs.declared.decimal.Literal.TheVariants.{Value, OutOfRange}
 
 -- the value, or a NaN where the literal is out of range
-unfoldable pub or_nan : Literal → Float
-or_nan (Value v) = v
-or_nan OutOfRange = nan
+unfoldable pub or_nan : Option Float → Float
+or_nan (Some v) = v
+or_nan None = nan

@@ -1,2 +1,2 @@
--- What C gets where the float layer answers with an enum.
+-- What C gets where the float layer answers with an option.
 pub mod Export

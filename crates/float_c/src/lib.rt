@@ -7,8 +7,6 @@ ghost use Rattle.float.specs.Cosine.{cos_of};
 ghost use Rattle.float.specs.Decimal.{decimal_of};
 ghost use Rattle.float_c.specs.Export.{or_nan};
 
-use float::decimal::Literal;
-
 #[unsafe(no_mangle)]
 pub extern "C" fn float_fsqrt(v: f64) -> f64
     ensures { result ≡ root_of v }
@@ -29,9 +27,5 @@ pub extern "C" fn float_decimal(w: u64, p: i64, minus: bool) -> f64
     requires { w ≤ 2 ^ 53 }
     ensures { result ≡ or_nan (decimal_of w p minus) }
 {
-    let l = float::decimal::decimal(w, p, minus);
-    match l {
-        Literal::Value(v) => v,
-        Literal::OutOfRange => 0.0 / 0.0,
-    }
+    float::decimal::decimal(w, p, minus).unwrap_or(f64::NAN)
 }

@@ -6,10 +6,12 @@ use mathlib.Core.Path.{◌≡◌, refl, sym, ap, ◌∙◌}
 use native.Mathlib.Omega.{arith}
 use lib.ListN.{length, get_or, drop, drop_of_length-le, length-append}
 use borrow.Author.Tests.{eq-eqb, ne_eqb}
+use Rattle.std.specs.Prelude.{Option}
 use Rattle.length.specs.Literals.{Run, digits, number, fraction, exponent, judged, decimal}
 use Rattle.length.specs.Kept.{Took, kept}
 use Rattle.length.specs.declared.Digits.{Digits}
 use Rattle.length.specs.declared.Exponent.{Exponent}
+use Rattle.length.proofs.Exponents.{kept_small}
 use Rattle.length.proofs.Bounds.{judged_kept}
 use Rattle.scan.proofs.Rest.{drop_at}
 use Rattle.length.proofs.Runs.{number_kept, number_append}
@@ -29,14 +31,14 @@ module _ (t : List ℕ) (i : ℕ) where
   fraction_at_end h = rw (drop_of_length-le t h)
 
 -- b being the digits after the point: the number is judged by what is kept of it
-decimal_of_kept : (minus : Bool) (s : List ℕ) (b : Run) (n w f : ℕ) (x : Exponent) → fraction (digits s).rest ≡ b → n ≡ length ((digits s).front ++ b.front) → w ≡ min (number 0 ((digits s).front ++ b.front)) (10 ^ 15) → f ≡ length b.front → x ≡ kept (exponent b.rest) → judged minus n w f x ≡ decimal minus s
+decimal_of_kept : (minus : Bool) (s : List ℕ) (b : Run) (n w f : ℕ) (x : Option Exponent) → fraction (digits s).rest ≡ b → n ≡ length ((digits s).front ++ b.front) → w ≡ min (number 0 ((digits s).front ++ b.front)) (10 ^ 15) → f ≡ length b.front → x ≡ kept (exponent b.rest) → judged minus n w f x ≡ decimal minus s
 unfolding decimal
 decimal_of_kept minus s b n w f x eb en ew ef ex =
     let ds = (digits s).front ++ b.front in
     rw (eb, en, ew, ef, ex)
     (judged_kept minus (length ds) (number 0 ds) (length b.front) (exponent b.rest) (rw length-append (omega arith)) (rw eb at (fifteen_digits s)))
 
-module _ (minus : Bool) (t : List ℕ) (at : ℕ) (a : Digits) (k : Took t at 0 (10 ^ 15) a) (x : Exponent) where
+module _ (minus : Bool) (t : List ℕ) (at : ℕ) (a : Digits) (k : Took t at 0 (10 ^ 15) a) (x : Option Exponent) where
   pub decimal_plain : fraction (drop a.next t) ≡ record { front = []; rest = drop a.next t } → x ≡ kept (exponent (drop a.next t)) → judged minus (a.next - at) a.value 0 x ≡ decimal minus (drop at t)
   decimal_plain e q =
       decimal_of_kept minus (drop at t) (record { front = []; rest = drop a.next t }) _ _ 0 x (ap fraction (sym k.rest) ∙ e)
@@ -52,3 +54,5 @@ module _ (minus : Bool) (t : List ℕ) (at : ℕ) (a : Digits) (k : Took t at 0 
       (j.value ∙ rw (k.value, number_kept, number_append))
       (omega (arith, j.count))
       (rw j.rest at q)
+
+pub ruleset decimal_laws = (kept_small, fraction_at_other, fraction_at_end, decimal_plain, decimal_pointed)

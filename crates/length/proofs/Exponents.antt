@@ -1,12 +1,14 @@
 -- Laws of the exponent at `at`: what the code keeps of it at an e, with what it took after that, at another byte and at the end. Assumes nothing.
 use Prim.Native.Nat.{ℕ, ◌+◌, ◌-◌, ◌≤◌, ◌<◌}
-use mathlib.Core.Bool.{true, false, not, ◌&&◌, ◌||◌}
+use mathlib.Core.Bool.{true, false, not, ◌&&◌, ◌||◌, and-false}
 use mathlib.Core.List.{List, [], ◌∷◌}
-use mathlib.Core.Path.{◌≡◌, ap, ◌∙◌}
+use mathlib.Core.Logic.{◌⊎◌, ⊎_elim}
+use mathlib.Core.Path.{◌≡◌}
 use native.Mathlib.Omega.{arith}
 use lib.Dec.{ltb, eqb}
 use lib.ListN.{length, get_or, drop, drop_of_length-le}
-use borrow.Author.Tests.{lt-ltb, le-ltb}
+use borrow.Author.Tests.{lt-ltb, le-ltb, eq-eqb, ne_eqb}
+use Rattle.std.specs.Prelude.{Option, Some, None, IfSome}
 use Rattle.scan.specs.Bytes.{is}
 use Rattle.length.specs.Literals.{digits, is_empty, exponent}
 use Rattle.length.specs.Kept.{Took, Signs, kept}
@@ -16,9 +18,10 @@ use Rattle.length.specs.declared.Sign.{Sign}
 use Rattle.scan.proofs.Rest.{drop_at}
 use Rattle.length.proofs.Ending.{empty_at_end}
 
-pub kept_small : (x y : Exponent) → x ≡ kept y → x.value ≤ 1000
+pub kept_small : (x : Option Exponent) → IfSome (kept x) (λ y. y.value ≤ 1000)
 unfolding kept
-kept_small x y e = rw e (omega arith)
+kept_small None = tt
+kept_small (Some x) = omega arith
 
 digits_take_places : (n : ℕ) (ds : List ℕ) → ltb n (n + length ds) ≡ not (is_empty ds)
 unfolding is_empty
@@ -26,19 +29,32 @@ digits_take_places n [] = le-ltb n (n + 0) (omega arith)
 digits_take_places n (d ∷ ds) = lt-ltb n (n + length (d ∷ ds)) (omega arith)
 
 module _ (t : List ℕ) (at : ℕ) where
-  pub exponent_at_e : (g : Sign) (d : Digits) → at < length t → is "e" (get_or t at 0) || is "E" (get_or t at 0) ≡ true → Signs t (at + 1) g → Took t g.next 0 1000 d → record { ok = ltb g.next d.next && eqb d.next (length t); minus = g.minus; value = d.value; count = d.next - g.next } ≡ kept (exponent (drop at t))
-  unfolding exponent kept
-  exponent_at_e g d h e s k =
-      let run = digits (drop g.next t) in
-      let some : ltb g.next d.next ≡ not (is_empty run.front) = rw k.count (digits_take_places g.next run.front) in
-      let last : eqb d.next (length t) ≡ is_empty run.rest = empty_at_end t _ k.inside ∙ ap is_empty k.rest in
-      let count : d.next - g.next ≡ length run.front = omega (arith, k.count) in
-      rw (drop_at t at h, e, ← s.rest, some, last, count, s.minus, k.value)
+  -- at an e: what it took after that, and whether that is an exponent and all
+  module _ (g : Sign) (d : Digits) (h : at < length t) (e : (get_or t at 0 ≡ 101) ⊎ (get_or t at 0 ≡ 69)) (s : Signs t (at + 1) g) (k : Took t g.next 0 1000 d) where
+    letter : is "e" (get_or t at 0) || is "E" (get_or t at 0) ≡ true
+    letter = ⊎_elim (λ e. rw e) (λ e. rw e) e
 
-  pub exponent_at_other : at < length t → is "e" (get_or t at 0) || is "E" (get_or t at 0) ≡ false → record { ok = false; minus = false; value = 0; count = 0 } ≡ kept (exponent (drop at t))
-  unfolding exponent kept
-  exponent_at_other h e = rw (drop_at t at h, e)
+    whole : not (is_empty (digits (drop g.next t)).front) && is_empty (digits (drop g.next t)).rest ≡ ltb g.next d.next && eqb d.next (length t)
+    whole = rw (empty_at_end t d.next k.inside, k.rest, k.count, digits_take_places)
 
-  pub exponent_at_end : length t ≤ at → record { ok = true; minus = false; value = 0; count = 0 } ≡ kept (exponent (drop at t))
+    pub exponent_at_e : g.next < d.next → d.next ≡ length t → Some (record { minus = g.minus; value = d.value; count = d.next - g.next }) ≡ kept (exponent (drop at t))
+    unfolding exponent kept
+    exponent_at_e p q =
+        let count : d.next - g.next ≡ length (digits (drop g.next t)).front = omega (arith, k.count) in
+        rw (drop_at t at h, letter, ← s.rest, whole, lt-ltb _ _ p, eq-eqb _ _ q, count, s.minus, k.value)
+
+    pub no_exponent_at_e : (d.next ≤ g.next) ⊎ (d.next ≡ length t → ⊥) → None ≡ kept (exponent (drop at t))
+    unfolding exponent kept
+    no_exponent_at_e n =
+        let part : ltb g.next d.next && eqb d.next (length t) ≡ false = ⊎_elim (λ p. rw (le-ltb g.next d.next p)) (λ q. rw (ne_eqb d.next (length t) q, and-false)) n in
+        rw (drop_at t at h, letter, ← s.rest, whole, part)
+
+  pub exponent_at_other : at < length t → (get_or t at 0 ≡ 101 → ⊥) → (get_or t at 0 ≡ 69 → ⊥) → None ≡ kept (exponent (drop at t))
+  unfolding exponent kept
+  exponent_at_other h n m = rw (drop_at t at h, ne_eqb _ 101 n, ne_eqb _ 69 m)
+
+  pub exponent_at_end : length t ≤ at → Some (record { minus = false; value = 0; count = 0 }) ≡ kept (exponent (drop at t))
   unfolding exponent kept
   exponent_at_end h = rw (drop_of_length-le t h)
+
+pub ruleset exponent_laws = (exponent_at_e, no_exponent_at_e, exponent_at_other, exponent_at_end)

@@ -3,8 +3,8 @@ pub mod Ending
 pub mod Runs
 pub mod Numbers
 pub mod Signs
-pub mod Words
 pub mod Exponents
 pub mod Powers
+pub mod Words
 pub mod Bounds
 pub mod Decimals

@@ -29,3 +29,5 @@ module _ (t : List ℕ) (at : ℕ) where
   pub sign_at_end : at ≤ length t → length t ≤ at → Signs t at (record { minus = false; next = at })
   unfolding sign
   sign_at_end p h = sign_is false at (rw (drop_of_length-le t h)) (omega arith) p
+
+pub ruleset sign_laws = (sign_at_plus, sign_at_minus, sign_at_other, sign_at_end)

@@ -1,5 +1,5 @@
 -- What the code keeps of a run of digits: a number up to a bound beyond which the port takes none, and places in place of lists.
-use Rattle.std.specs.Prelude.{ℕ, ◌+◌, ◌≤◌, min, List, ◌≡◌, length, drop}
+use Rattle.std.specs.Prelude.{ℕ, ◌+◌, ◌≤◌, min, List, ◌≡◌, Option, Some, None, length, drop}
 use Rattle.length.specs.Literals.{digits, number, sign}
 use Rattle.length.specs.declared.Digits.{Digits}
 use Rattle.length.specs.declared.Exponent.{Exponent}
@@ -19,5 +19,6 @@ pub record Signs (t : List ℕ) (at : ℕ) (r : Sign) : Type 0 where
   pub inside : r.next ≤ length t
 
 -- an exponent, its number up to 1000
-unfoldable pub kept : Exponent → Exponent
-kept x = record { ok = x.ok; minus = x.minus; value = min x.value 1000; count = x.count }
+unfoldable pub kept : Option Exponent → Option Exponent
+kept None = None
+kept (Some x) = Some (record { minus = x.minus; value = min x.value 1000; count = x.count })

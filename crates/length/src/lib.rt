@@ -1,13 +1,11 @@
 // A length in parentheses: the bytes between them. (parse.rs of miratope-core calls Rust's own f64 parsing here.)
 #![tactic(auto)]
 
-ghost use Rattle.std.specs.Prelude.{false, ◌≡◌, ◌<◌, ◌≤◌, ◌^◌, length, drop};
+ghost use Rattle.std.specs.Prelude.{false, ◌≡◌, ◌<◌, ◌≤◌, ◌^◌, length, drop, IfSome};
 ghost use Rattle.std.specs.Float.{inf};
 ghost use Rattle.float.specs.Decimal.{signed};
 ghost use Rattle.length.specs.Literals.{power, judged, exponent, decimal, fold, is_word, unsigned, literal_of};
 ghost use Rattle.length.specs.Kept.{Took, Signs, kept};
-
-use float::decimal::Literal;
 
 #[derive(Clone, Copy)]
 pub enum Length {
@@ -30,27 +28,24 @@ pub fn take_digits(t: &[u8], at: usize, before: u64, most: u64) -> Digits
     ensures { Took t.now at before most result }
 {
     let mut value = before;
-    let mut i = at;
-    while i < t.len() {
-        let b = t[i];
-        if scan::is_digit(b) {
-            value = scan::grown(value, b, most);
-            i += 1;
-        } else {
+    for i in at..t.len() {
+        if !scan::is_digit(t[i]) {
             return Digits { value, next: i };
         }
+        value = scan::grown(value, t[i], most);
     }
-    Digits { value, next: i }
+    Digits {
+        value,
+        next: t.len(),
+    }
 }
 
 // A letter in the lower case; any other byte as it is.
+#[tactic(auto, unfolding(crate::specs::Literals::fold, scan::specs::Bytes::within))]
 pub fn fold(b: u8) -> u8
     ensures { result ≡ fold b }
 {
-    match b {
-        b'A'..=b'Z' => b + 32,
-        _ => b,
-    }
+    b.to_ascii_lowercase()
 }
 
 // Whether the bytes from `at` to the end are the word, in any mixture of case.
@@ -58,21 +53,8 @@ pub fn is_word(t: &[u8], at: usize, word: &[u8]) -> bool
     requires { at ≤ length t.now }
     ensures { result ≡ is_word (drop at t.now) word.now }
 {
-    let mut i = at;
-    let mut j = 0;
-    while j < word.len() {
-        if i < t.len() {
-            if fold(t[i]) == word[j] {
-                i += 1;
-                j += 1;
-            } else {
-                return false;
-            }
-        } else {
-            return false;
-        }
-    }
-    i == t.len()
+    let rest = &t[at..];
+    rest.len() == word.len() && rest.iter().zip(word).all(|(b, w)| fold(*b) == *w)
 }
 
 #[derive(Clone, Copy)]
@@ -82,74 +64,58 @@ pub struct Sign {
 }
 
 // An optional sign at `at`.
+#[tactic(auto, using(crate::proofs::Signs::sign_laws))]
 pub fn take_sign(t: &[u8], at: usize) -> Sign
     requires { at ≤ length t.now }
     ensures { Signs t.now at result }
 {
-    if at < t.len() {
-        let b = t[at];
-        if b == b'+' {
-            return Sign {
-                minus: false,
-                next: at + 1,
-            };
-        }
-        if b == b'-' {
-            return Sign {
-                minus: true,
-                next: at + 1,
-            };
-        }
-    }
-    Sign {
-        minus: false,
-        next: at,
-    }
+    let (minus, next) = match t.get(at) {
+        Some(b'+') => (false, at + 1),
+        Some(b'-') => (true, at + 1),
+        _ => (false, at),
+    };
+    Sign { minus, next }
 }
 
-// What follows the digits: whether it is an exponent, or nothing, and the exponent's sign, number up to 1000 and count of digits.
+// An exponent: its sign, its number up to 1000 and its count of digits.
 #[derive(Clone, Copy)]
 pub struct Exponent {
-    pub ok: bool,
     pub minus: bool,
     pub value: u64,
     pub count: usize,
 }
 
-pub fn take_exponent(t: &[u8], at: usize) -> Exponent
+// The exponent that follows a number's digits, if one or nothing follows them.
+#[tactic(auto, using(crate::proofs::Exponents::exponent_laws))]
+pub fn take_exponent(t: &[u8], at: usize) -> Option<Exponent>
     requires { at ≤ length t.now }
     ensures { result ≡ kept (exponent (drop at t.now)) }
 {
-    if at < t.len() {
-        let b = t[at];
-        if b == b'e' || b == b'E' {
+    match t.get(at) {
+        Some(b'e' | b'E') => {
             let g = take_sign(t, at + 1);
-            let from = g.next;
-            let d = take_digits(t, from, 0, 1000);
-            let next = d.next;
-            return Exponent {
-                ok: from < next && next == t.len(),
-                minus: g.minus,
-                value: d.value,
-                count: next - from,
-            };
+            let d = take_digits(t, g.next, 0, 1000);
+            if g.next < d.next && d.next == t.len() {
+                Some(Exponent {
+                    minus: g.minus,
+                    value: d.value,
+                    count: d.next - g.next,
+                })
+            } else {
+                None
+            }
         }
-        return Exponent {
-            ok: false,
+        Some(_) => None,
+        None => Some(Exponent {
             minus: false,
             value: 0,
             count: 0,
-        };
-    }
-    Exponent {
-        ok: true,
-        minus: false,
-        value: 0,
-        count: 0,
+        }),
     }
 }
 
 // The exponent minus the count of digits after the point.
+#[tactic(auto, unfolding(crate::specs::Literals::power))]
 pub fn power(minus: bool, e: u64, f: usize) -> i64
     requires { (e ≤ 1000) × (f ≤ 1000) }
     ensures { result ≡ power minus e f }
@@ -159,67 +125,66 @@ pub fn power(minus: bool, e: u64, f: usize) -> i64
     if minus { -x - y } else { x - y }
 }
 
-// The number whose digits are w, n of them, f after the point, with an exponent.
-pub fn judged(w: u64, n: usize, f: usize, x: Exponent, minus: bool) -> Length
-    requires { (w ≤ 2 ^ 53) × (f ≤ n) × (x.value ≤ 1000) }
+// The number whose digits are w, n of them, f after the point, with an exponent, if that is one.
+#[tactic(auto, unfolding(crate::specs::Literals::judged, crate::specs::Literals::length_of))]
+pub fn judged(w: u64, n: usize, f: usize, x: Option<Exponent>, minus: bool) -> Length
+    requires { (w ≤ 2 ^ 53) × (f ≤ n) × IfSome x (λ x. x.value ≤ 1000) }
     ensures { result ≡ judged minus n w f x }
 {
+    let Some(x) = x else {
+        return Length::NoNumber;
+    };
     if n == 0 {
         return Length::NoNumber;
     }
-    if !x.ok {
-        return Length::NoNumber;
-    }
-    if 15 < n {
+    if 15 < n || 3 < x.count {
         return Length::Range;
     }
-    if 3 < x.count {
-        return Length::Range;
-    }
-    let p = power(x.minus, x.value, f);
-    match float::decimal::decimal(w, p, minus) {
-        Literal::Value(v) => Length::Value(v),
-        Literal::OutOfRange => Length::Range,
+    match float::decimal::decimal(w, power(x.minus, x.value, f), minus) {
+        Some(v) => Length::Value(v),
+        None => Length::Range,
     }
 }
 
-// Digits with at most one point, at least one digit, and an exponent, from `at` on. The number is kept up to 10^15: 15 digits stay below it, and more
-// are refused whatever their number.
+// The bound up to which a number's digits are kept: 15 digits stay below it, and more are refused whatever their number.
+const MOST: u64 = 1_000_000_000_000_000;
+
+// Digits with at most one point, at least one digit, and an exponent, from `at` on.
+#[tactic(auto, using(crate::proofs::Decimals::decimal_laws))]
 pub fn decimal(t: &[u8], at: usize, minus: bool) -> Length
     requires { at ≤ length t.now }
     ensures { result ≡ decimal minus (drop at t.now) }
 {
-    let a = take_digits(t, at, 0, 1000000000000000);
+    let a = take_digits(t, at, 0, MOST);
     let i = a.next;
     let whole = i - at;
-    if i < t.len() {
-        if t[i] == b'.' {
-            let b = take_digits(t, i + 1, a.value, 1000000000000000);
-            let j = b.next;
-            let f = j - (i + 1);
-            return judged(b.value, whole + f, f, take_exponent(t, j), minus);
-        }
+    if i < t.len() && t[i] == b'.' {
+        let b = take_digits(t, i + 1, a.value, MOST);
+        let f = b.next - (i + 1);
+        judged(b.value, whole + f, f, take_exponent(t, b.next), minus)
+    } else {
+        judged(a.value, whole, 0, take_exponent(t, i), minus)
     }
-    judged(a.value, whole, 0, take_exponent(t, i), minus)
 }
 
-// The infinity of a sign. (A constant infinity is refused.)
+// The infinity of a sign.
 pub fn infinity(minus: bool) -> f64
     ensures { result ≡ signed minus (inf false) }
 {
-    let v = 1.0 / 0.0;
-    if minus { -v } else { v }
+    if minus {
+        f64::NEG_INFINITY
+    } else {
+        f64::INFINITY
+    }
 }
 
 // What follows the sign, at `at`.
+#[tactic(auto, unfolding(crate::specs::Literals::unsigned, scan::specs::Ascii::ascii))]
 pub fn unsigned(t: &[u8], at: usize, minus: bool) -> Length
     requires { at ≤ length t.now }
     ensures { result ≡ unsigned minus (drop at t.now) }
 {
-    if is_word(t, at, b"inf") {
-        return Length::Infinite(infinity(minus));
-    }
-    if is_word(t, at, b"infinity") {
+    if is_word(t, at, b"inf") || is_word(t, at, b"infinity") {
         return Length::Infinite(infinity(minus));
     }
     if is_word(t, at, b"nan") {
@@ -228,10 +193,10 @@ pub fn unsigned(t: &[u8], at: usize, minus: bool) -> Length
     decimal(t, at, minus)
 }
 
+#[tactic(auto, unfolding(crate::specs::Literals::literal_of))]
 pub fn literal(t: &[u8]) -> Length
     ensures { result ≡ literal_of t.now }
 {
     let g = take_sign(t, 0);
-    let at = g.next;
-    unsigned(t, at, g.minus)
+    unsigned(t, g.next, g.minus)
 }

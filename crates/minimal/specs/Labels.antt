@@ -3,6 +3,7 @@ use Rattle.std.specs.Prelude.{ℕ, ◌≤◌, ◌<◌, Bool, true, false, List, 
 use Rattle.float.specs.Pick.{pick}
 use Rattle.cd.specs.Diagrams.{place_of}
 use Rattle.cd.specs.Paths.{Path}
+use Rattle.cd.specs.declared.Cd.{Cd}
 use Rattle.cd.specs.declared.Pair.{Pair}
 
 -- of each pair, whether an edge is stored
@@ -29,3 +30,7 @@ pub record Partway (E : ℕ → ℕ → Type 0) (n j i : ℕ) (of : ℕ → ℕ)
   pub low : (a : ℕ) → a < n → of a ≤ a
   pub rows : (p q : ℕ) → p < q → q < j → E p q → of p ≡ of q
   pub row : (p : ℕ) → p < i → E p j → of p ≡ of j
+
+-- the same of the pairs that a diagram's ranks mark
+abbrev pub Met : Cd → ℕ → ℕ → List ℕ → Type 0
+Met cd j i of = Partway (Marked cd.count (joined_in cd.pairs)) cd.count j i (label_in of)

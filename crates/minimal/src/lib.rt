@@ -4,82 +4,56 @@
 ghost use Rattle.std.specs.Prelude.{List, ◌≡◌, ℕ, ◌+◌, ◌<◌, ◌≤◌, length};
 ghost use Rattle.cd.specs.Diagrams.{Stored, limit, cd_of};
 ghost use Rattle.cd.specs.Paths.{Labelled};
-ghost use Rattle.minimal.specs.Labels.{joined_in, Marked, label_in, instead, Partway};
+ghost use Rattle.minimal.specs.Labels.{joined_in, Marked, label_in, instead, Met};
 ghost use Rattle.cd.specs.Minimal.{is_ringed, Linked, Minimal, Decides};
 
-use cd::{Cd, LIMIT, Node, PAIRS, Place};
+use cd::{Cd, LIMIT, Node, Place};
 
-// Of each pair, loops included, whether an edge is stored.
-pub fn marks(cd: Cd) -> [bool; PAIRS]
-    ensures { result ≡ joined_in cd.pairs }
+// Puts the label `to` in the place of `from`.
+#[tactic(auto, unfolding(crate::specs::Labels::instead))]
+pub fn relabel(of: &mut [usize; LIMIT], from: usize, to: usize)
+    ensures { (k : ℕ) → k < limit → label_in of.new k ≡ instead from to (label_in of.old k) }
 {
-    let mut out = [false; PAIRS];
-    for p in 0..PAIRS {
-        let pair = cd.pairs[p];
-        out[p] = 0 < pair.rank;
-    }
-    out
-}
-
-// The labels with `to` in the place of `from`.
-pub fn relabelled(of: [usize; LIMIT], from: usize, to: usize) -> [usize; LIMIT]
-    ensures { (k : ℕ) → k < limit → label_in result k ≡ instead from to (label_in of k) }
-{
-    let mut out = of;
-    for k in 0..LIMIT {
-        if out[k] == from {
-            out[k] = to;
+    for label in of.iter_mut() {
+        if *label == from {
+            *label = to;
         }
     }
-    out
 }
 
-// The labels once the pair i, j is met: if an edge joins it, the two components become one, and have the lesser label.
-pub fn met(
-    marks: &[bool; PAIRS],
-    n: usize,
-    of: [usize; LIMIT],
-    i: usize,
-    j: usize,
-) -> [usize; LIMIT]
-    requires { (i < j) × (j < n) × (n ≤ limit) × Partway (Marked n marks.now) n j i (label_in of) }
-    ensures { Partway (Marked n marks.now) n j (i + 1) (label_in result) }
+// Meets the pair i, j: if an edge joins it, the two components become one, and have the lesser label.
+pub fn meet(cd: &Cd, of: &mut [usize; LIMIT], i: usize, j: usize)
+    requires { (i < j) × (j < cd.now.count) × (cd.now.count ≤ limit) × Met cd.now j i of.old }
+    ensures { Met cd.now j (i + 1) of.new }
 {
-    if marks[cd::pair_place(i, j)] {
-        let a = of[i];
-        let b = of[j];
+    if 0 < cd.pairs[cd::pair_place(i, j)].rank {
+        let (a, b) = (of[i], of[j]);
         if a < b {
-            relabelled(of, b, a)
+            relabel(of, b, a);
         } else {
-            relabelled(of, a, b)
+            relabel(of, a, b);
         }
-    } else {
-        of
     }
 }
 
-// The labels once the pairs of row j are met.
-pub fn row_met(marks: &[bool; PAIRS], n: usize, of: [usize; LIMIT], j: usize) -> [usize; LIMIT]
-    requires { (j < n) × (n ≤ limit) × Partway (Marked n marks.now) n j 0 (label_in of) }
-    ensures { Partway (Marked n marks.now) n (j + 1) 0 (label_in result) }
+// Meets the pairs of row j.
+pub fn meet_row(cd: &Cd, of: &mut [usize; LIMIT], j: usize)
+    requires { (j < cd.now.count) × (cd.now.count ≤ limit) × Met cd.now j 0 of.old }
+    ensures { Met cd.now (j + 1) 0 of.new }
 {
-    let mut out = of;
     for i in 0..j {
-        let next = met(marks, n, out, i, j);
-        out = next;
+        meet(cd, of, i, j);
     }
-    out
 }
 
-// Each node's component, named by its lowest node, of n nodes whose pairs are marked.
-pub fn labels(marks: &[bool; PAIRS], n: usize) -> [usize; LIMIT]
-    requires { n ≤ limit }
-    ensures { Labelled (Marked n marks.now) n (label_in result) }
+// Each node's component, named by its lowest node, by the ranks of the pairs.
+pub fn labels(cd: &Cd) -> [usize; LIMIT]
+    requires { cd.now.count ≤ limit }
+    ensures { Labelled (Marked cd.now.count (joined_in cd.now.pairs)) cd.now.count (label_in result) }
 {
-    let mut of = [0usize, 1, 2, 3, 4, 5, 6, 7, 8];
-    for j in 0..n {
-        let next = row_met(marks, n, of, j);
-        of = next;
+    let mut of = std::array::from_fn(|i| i);
+    for j in 0..cd.count {
+        meet_row(cd, &mut of, j);
     }
     of
 }
@@ -89,19 +63,14 @@ pub fn components(cd: Cd) -> [usize; LIMIT]
     requires { cd.count ≤ limit }
     ensures { (ns : List Node) (es : List Stored) → cd ≡ cd_of ns es → Labelled (Linked (length ns) es) (length ns) (label_in result) }
 {
-    let m = marks(cd);
-    labels(&m, cd.count)
+    labels(&cd)
 }
 
+#[tactic(auto, unfolding(cd::specs::Minimal::is_ringed))]
 pub fn is_ringed(p: Place) -> bool
     ensures { result ≡ is_ringed p.node }
 {
-    let n = p.node;
-    match n {
-        Node::Ringed(_) => true,
-        Node::Unringed => false,
-        Node::Snub(_) => false,
-    }
+    matches!(p.node, Node::Ringed(_))
 }
 
 // Whether each component has a ringed node.
@@ -110,16 +79,13 @@ pub fn minimal(cd: Cd) -> bool
     ensures { (ns : List Node) (es : List Stored) → cd ≡ cd_of ns es → Decides (Minimal ns es) result }
 {
     let of = components(cd);
-    let n = cd.count;
-    'component: for c in 0..n {
+    'component: for c in 0..cd.count {
         if of[c] != c {
             continue;
         }
-        for i in 0..n {
-            if of[i] == c {
-                if is_ringed(cd.nodes[i]) {
-                    continue 'component;
-                }
+        for i in 0..cd.count {
+            if of[i] == c && is_ringed(cd.nodes[i]) {
+                continue 'component;
             }
         }
         return false;

@@ -5,15 +5,14 @@ ghost use Rattle.std.specs.Prelude.{◌≡◌, ◌<◌, ◌≤◌, length, drop}
 ghost use Rattle.cd.specs.Letters.{letter_of};
 ghost use Rattle.node.specs.Nodes.{closing, last_byte, length_node, length_at, reference, letter_at, reference_at, letter_node, node_at};
 
-use cd::{CdError, Letter, Node, NodeRef};
+use cd::{CdError, Node, NodeRef};
 use length::Length;
 
-// Each with the place after it.
+// What was read; each function answers the place after it too.
 #[derive(Clone, Copy)]
 pub enum NodeRead {
-    Added(Node, usize),
-    Referred(NodeRef, usize),
-    Refused(CdError),
+    Added(Node),
+    Referred(NodeRef),
 }
 
 // The place of the first `)` from `at` on, or the length.
@@ -21,18 +20,14 @@ pub fn closing(s: &[u8], at: usize) -> usize
     requires { at ≤ length s.now }
     ensures { (result ≡ closing (drop at s.now) at) × (result ≤ length s.now) × (at ≤ result) }
 {
-    let mut i = at;
-    while i < s.len() {
-        if s[i] == b')' {
-            return i;
-        } else {
-            i += 1;
-        }
+    match s[at..].iter().position(|b| *b == b')') {
+        Some(n) => at + n,
+        None => s.len(),
     }
-    i
 }
 
 // The last byte of a literal from `at` to `e`; of an empty one, what stands at its end.
+#[tactic(auto, unfolding(crate::specs::Nodes::last_byte))]
 pub fn last_byte(at: usize, e: usize) -> usize
     ensures { result ≡ last_byte at e }
 {
@@ -40,40 +35,41 @@ pub fn last_byte(at: usize, e: usize) -> usize
 }
 
 // The node of a literal; of an infinite one only where it is wished.
-pub fn length_node(l: Length, last: usize, next: usize, wish: bool) -> NodeRead
+#[tactic(auto, unfolding(crate::specs::Nodes::length_node))]
+pub fn length_node(
+    l: Length,
+    last: usize,
+    next: usize,
+    wish: bool,
+) -> Result<(NodeRead, usize), CdError>
     ensures { result ≡ length_node wish l last next }
 {
     match l {
-        Length::Value(v) => NodeRead::Added(Node::Ringed(v), next),
-        Length::Infinite(v) => {
-            if wish {
-                NodeRead::Added(Node::Ringed(v), next)
-            } else {
-                NodeRead::Refused(CdError::InfiniteLength { pos: last })
-            }
-        }
-        Length::NoNumber => NodeRead::Refused(CdError::ParseError { pos: last }),
-        Length::Nan => NodeRead::Refused(CdError::InvalidSymbol { pos: last }),
-        Length::Range => NodeRead::Refused(CdError::OutOfRange { pos: last }),
+        Length::Value(v) => Ok((NodeRead::Added(Node::Ringed(v)), next)),
+        Length::Infinite(v) if wish => Ok((NodeRead::Added(Node::Ringed(v)), next)),
+        Length::Infinite(_) => Err(CdError::InfiniteLength { pos: last }),
+        Length::NoNumber => Err(CdError::ParseError { pos: last }),
+        Length::Nan => Err(CdError::InvalidSymbol { pos: last }),
+        Length::Range => Err(CdError::OutOfRange { pos: last }),
     }
 }
 
 // The length that starts at `at`, after its `(`.
-pub fn parse_node(s: &[u8], at: usize, wish: bool) -> NodeRead
+#[tactic(auto, using(crate::proofs::NodeLaws::length_laws))]
+pub fn parse_node(s: &[u8], at: usize, wish: bool) -> Result<(NodeRead, usize), CdError>
     requires { at ≤ length s.now }
     ensures { result ≡ length_at wish (drop at s.now) at }
 {
     let e = closing(s, at);
-    if e < s.len() {
-        let t = &s[at..e];
-        let l = length::literal(t);
-        length_node(l, last_byte(at, e), e + 1, wish)
-    } else {
-        NodeRead::Refused(CdError::MismatchedParenthesis { pos: e })
+    if e == s.len() {
+        return Err(CdError::MismatchedParenthesis { pos: e });
     }
+    let l = length::literal(&s[at..e]);
+    length_node(l, last_byte(at, e), e + 1, wish)
 }
 
 // The reference of a letter's number.
+#[tactic(auto, unfolding(crate::specs::Nodes::reference))]
 pub fn reference(negative: bool, k: u8) -> NodeRef
     ensures { result ≡ reference negative k }
 {
@@ -85,60 +81,52 @@ pub fn reference(negative: bool, k: u8) -> NodeRef
 }
 
 // A reference's letter at `at`.
-pub fn read_letter(s: &[u8], at: usize, negative: bool) -> NodeRead
+#[tactic(auto, using(crate::proofs::NodeLaws::letter_laws))]
+pub fn read_letter(s: &[u8], at: usize, negative: bool) -> Result<(NodeRead, usize), CdError>
     ensures { result ≡ letter_at (drop at s.now) at negative }
 {
-    if at < s.len() {
-        let b = s[at];
-        match b {
-            b'a'..=b'z' => NodeRead::Referred(reference(negative, b - b'a'), at + 1),
-            _ => NodeRead::Refused(CdError::InvalidSymbol { pos: at }),
-        }
-    } else {
-        NodeRead::Refused(CdError::UnexpectedEnding { pos: at })
+    match s.get(at).copied() {
+        Some(b @ b'a'..=b'z') => Ok((NodeRead::Referred(reference(negative, b - b'a')), at + 1)),
+        Some(_) => Err(CdError::InvalidSymbol { pos: at }),
+        None => Err(CdError::UnexpectedEnding { pos: at }),
     }
 }
 
 // The reference that starts at `at`, after its `*`.
-pub fn read_reference(s: &[u8], at: usize) -> NodeRead
+#[tactic(auto, using(crate::proofs::NodeLaws::reference_laws))]
+pub fn read_reference(s: &[u8], at: usize) -> Result<(NodeRead, usize), CdError>
     ensures { result ≡ reference_at (drop at s.now) at }
 {
-    if at < s.len() {
-        if s[at] == b'-' {
-            read_letter(s, at + 1, true)
-        } else {
-            read_letter(s, at, false)
-        }
-    } else {
-        NodeRead::Refused(CdError::UnexpectedEnding { pos: at })
+    match s.get(at) {
+        Some(b'-') => read_letter(s, at + 1, true),
+        _ => read_letter(s, at, false),
     }
 }
 
 // The node of a letter, at `at`.
-pub fn letter_node(b: u8, at: usize) -> NodeRead
+#[tactic(auto, unfolding(crate::specs::Nodes::letter_node))]
+pub fn letter_node(b: u8, at: usize) -> Result<(NodeRead, usize), CdError>
     requires { at < 4294967296 }
     ensures { result ≡ letter_node (letter_of b) at }
 {
     match cd::from_char(b) {
-        Letter::Stands(n) => NodeRead::Added(n, at + 1),
-        Letter::Unknown => NodeRead::Refused(CdError::InvalidSymbol { pos: at }),
+        Some(n) => Ok((NodeRead::Added(n), at + 1)),
+        None => Err(CdError::InvalidSymbol { pos: at }),
     }
 }
 
 // The node or reference at `at`, where no space stands.
-pub fn create_node(s: &[u8], at: usize, wish: bool) -> NodeRead
+#[tactic(auto, using(crate::proofs::NodeLaws::node_laws))]
+pub fn create_node(s: &[u8], at: usize, wish: bool) -> Result<(NodeRead, usize), CdError>
     requires { (at ≤ length s.now) × (length s.now ≤ 255) }
     ensures { result ≡ node_at wish (drop at s.now) at }
 {
     if s.len() <= at {
-        return NodeRead::Refused(CdError::UnexpectedEnding { pos: at });
+        return Err(CdError::UnexpectedEnding { pos: at });
     }
-    let b = s[at];
-    if b == b'(' {
-        return parse_node(s, at + 1, wish);
+    match s[at] {
+        b'(' => parse_node(s, at + 1, wish),
+        b'*' => read_reference(s, at + 1),
+        b => letter_node(b, at),
     }
-    if b == b'*' {
-        return read_reference(s, at + 1);
-    }
-    letter_node(b, at)
 }

@@ -1,34 +1,45 @@
 -- What an answer in lowest terms tells of the edge as typed. Assumes nothing.
-use mathlib.Core.Path.{◌≡◌, refl}
 use Prim.Native.Nat.{ℕ}
+use mathlib.Core.Path.{◌≡◌, refl, sym}
 use native.Mathlib.Omega.{arith}
+use Rattle.std.specs.Prelude.{Option, Some, None, Result, Ok, Err}
+use Rattle.std.proofs.lemmas.Option.{some_pair_parts}
 use Rattle.cd.specs.Edges.{reduced}
 use Rattle.cd.specs.declared.CdError.{CdError}
 use Rattle.cd.specs.declared.Edge.{Edge}
-use Rattle.scan.specs.Kept.{kept}
-use Rattle.scan.specs.declared.EdgeRead.{EdgeRead}
-use Rattle.scan.specs.declared.EdgeRead.TheVariants.{NoEdge, Read, Refused}
+use Rattle.scan.specs.Edges.{Read, if_any}
+use Rattle.scan.specs.Kept.{kept, kept_if_any}
 
-pub kept_none : (x : EdgeRead) → kept x ≡ NoEdge → x ≡ NoEdge
-unfolding kept
-kept_none NoEdge h = refl
-kept_none (Read e next) h = cc
-kept_none (Refused r) h = cc
+abbrev Optional : Type 0
+Optional = Result (Option (Edge × ℕ)) CdError
 
-pub kept_refused : (x : EdgeRead) (r : CdError) → kept x ≡ Refused r → x ≡ Refused r
-unfolding kept
-kept_refused NoEdge r h = cc
-kept_refused (Read e next) r h = cc
-kept_refused (Refused q) r h = h
+pub kept_any : (x : Read) → kept_if_any (if_any x) ≡ if_any (kept x)
+unfolding kept kept_if_any
+kept_any (Ok x) = refl
+kept_any (Err r) = refl
+
+pub kept_none : (x : Optional) → kept_if_any x ≡ Ok None → x ≡ Ok None
+unfolding kept_if_any
+kept_none (Ok None) h = refl
+kept_none (Ok (Some y)) h = cc
+kept_none (Err r) h = cc
+
+pub kept_refused : (x : Optional) (r : CdError) → kept_if_any x ≡ Err r → x ≡ Err r
+unfolding kept_if_any
+kept_refused (Ok None) r h = cc
+kept_refused (Ok (Some y)) r h = cc
+kept_refused (Err q) r h = h
 
 -- the edge as typed
-pub record Typed (x : EdgeRead) (e : Edge) (next : ℕ) : Type 0 where
+pub record Typed (x : Optional) (e : Edge) (next : ℕ) : Type 0 where
   pub edge : Edge
-  pub read : x ≡ Read edge next
+  pub read : x ≡ Ok (Some (edge, next))
   pub reduces : e ≡ reduced edge
 
-pub kept_read : (x : EdgeRead) (e : Edge) (next : ℕ) → kept x ≡ Read e next → Typed x e next
-unfolding kept
-kept_read NoEdge e next h = absurd (let z : ◌≡◌ {A = ℕ} 0 1 = cc in omega arith)
-kept_read (Read d to) e next h = record { edge = d; read = cc; reduces = cc }
-kept_read (Refused q) e next h = absurd (let z : ◌≡◌ {A = ℕ} 0 1 = cc in omega arith)
+pub kept_read : (x : Optional) (e : Edge) (next : ℕ) → kept_if_any x ≡ Ok (Some (e, next)) → Typed x e next
+unfolding kept_if_any
+kept_read (Ok None) e next h = absurd (let z : ◌≡◌ {A = ℕ} 0 1 = cc in omega arith)
+kept_read (Ok (Some (d, to))) e next h =
+    let same = some_pair_parts (reduced d) e to next (cc) in
+    record { edge = d; read = cc same.1; reduces = sym same.0 }
+kept_read (Err q) e next h = absurd (let z : ◌≡◌ {A = ℕ} 0 1 = cc in omega arith)

@@ -1,17 +1,15 @@
 -- Document 01, "Reading", the item "Edge". The first byte of a list stands at i.
-use Rattle.std.specs.Prelude.{ℕ, ◌+◌, ◌-◌, ◌*◌, ◌^◌, Bool, true, false, ◌&&◌, ◌||◌, List, [], ◌∷◌, ltb, eqb, drop}
+use Rattle.std.specs.Prelude.{ℕ, ◌+◌, ◌-◌, ◌*◌, ◌^◌, Bool, true, false, ◌&&◌, ◌||◌, List, [], ◌∷◌, ltb, eqb, drop, Option, Some, None, Result, Ok, Err}
 use Prim.Native.Char.{code}
 use Rattle.float.specs.Pick.{pick}
 use Rattle.cd.specs.Edges.{is_edge}
+use Rattle.cd.specs.declared.CdError.{CdError}
 use Rattle.cd.specs.declared.CdError.TheVariants.{UnexpectedEnding, ParseError, InvalidSymbol, InvalidEdge}
+use Rattle.cd.specs.declared.Edge.{Edge}
 use Rattle.scan.specs.Bytes.{is, within, is_digit, digit}
 use Rattle.scan.specs.Spaces.{skip}
-use Rattle.scan.specs.declared.Before.{Before}
-use Rattle.scan.specs.declared.Before.TheVariants.{Nothing, Number}
 use Rattle.scan.specs.declared.Sort.{Sort}
 use Rattle.scan.specs.declared.Sort.TheVariants.{Digit, Slash, Terminator, Other}
-use Rattle.scan.specs.declared.EdgeRead.{EdgeRead}
-use Rattle.scan.specs.declared.EdgeRead.TheVariants.{NoEdge, Read, Refused}
 
 -- "until `(`, `*`, byte 32, or a byte from `A` to `z`, the six signs between `Z` and `a` included"
 unfoldable pub ends_run : ℕ → Bool
@@ -37,17 +35,21 @@ longer p b = record { value = p.value * 10 + digit b; some = true }
 unfoldable pub closes : Part → Bool
 closes p = ltb p.value (2 ^ 32) && p.some
 
+-- an edge and the place after it, or a refusal
+abbrev pub Read : Type 0
+Read = Result (Edge × ℕ) CdError
+
 -- an edge, or refusal 7 with the run's last byte
-unfoldable pub edge : ℕ → ℕ → ℕ → EdgeRead
-edge num den i = pick (is_edge num den) (Read (record { num = num; den = den }) i) (Refused (InvalidEdge num den (i - 1)))
+unfoldable pub edge : ℕ → ℕ → ℕ → Read
+edge num den i = pick (is_edge num den) (Ok (record { num = num; den = den }, i)) (Err (InvalidEdge num den (i - 1)))
 
 -- "only the last two count"; a part alone is over 1
-unfoldable pub last_two : Before → ℕ → ℕ → EdgeRead
+unfoldable pub last_two : Option ℕ → ℕ → ℕ → Read
 unfolding edge
-last_two Nothing last i = edge last 1 i
-last_two (Number n) last i = edge n last i
+last_two None last i = edge last 1 i
+last_two (Some n) last i = edge n last i
 
-unfoldable pub by_sort : Sort → EdgeRead → EdgeRead → EdgeRead → EdgeRead → EdgeRead
+unfoldable pub by_sort : Sort → Read → Read → Read → Read → Read
 by_sort Digit d s t o = d
 by_sort Slash d s t o = s
 by_sort Terminator d s t o = t
@@ -55,21 +57,26 @@ by_sort Other d s t o = o
 
 -- "digits and `/` run until ..": the parts closed before, and the open one. "Each `/` closes a part, as does the run's end".
 -- A part that is no number is refused with the byte before the one that closes it.
-unfoldable pub run : List ℕ → ℕ → Before → Part → EdgeRead
+unfoldable pub run : List ℕ → ℕ → Option ℕ → Part → Read
 unfolding last_two closes sort_of by_sort
-run [] i before p = Refused (UnexpectedEnding i)
+run [] i before p = Err (UnexpectedEnding i)
 run (b ∷ bs) i before p =
     let on = run bs (i + 1) before (longer p b) in
-    let next = run bs (i + 1) (Number p.value) empty in
-    by_sort (sort_of b) on (pick (closes p) next (Refused (ParseError (i - 1)))) (pick (closes p) (last_two before p.value i) (Refused (ParseError (i - 1)))) (Refused (InvalidSymbol i))
+    let next = run bs (i + 1) (Some p.value) empty in
+    by_sort (sort_of b) on (pick (closes p) next (Err (ParseError (i - 1)))) (pick (closes p) (last_two before p.value i) (Err (ParseError (i - 1)))) (Err (InvalidSymbol i))
+
+-- an edge that was read, where there may be none
+abbrev pub if_any : Read → Result (Option (Edge × ℕ)) CdError
+if_any (Ok x) = Ok (Some x)
+if_any (Err r) = Err r
 
 -- "Unless the byte is a digit there is no edge."
-unfoldable pub optional : List ℕ → ℕ → EdgeRead
+unfoldable pub optional : List ℕ → ℕ → Result (Option (Edge × ℕ)) CdError
 unfolding run
-optional [] i = NoEdge
-optional (b ∷ bs) i = let r = run (b ∷ bs) i Nothing empty in pick (is_digit b) r NoEdge
+optional [] i = Ok None
+optional (b ∷ bs) i = let r = run (b ∷ bs) i None empty in pick (is_digit b) (if_any r) (Ok None)
 
 -- "Edge: skip spaces."
-unfoldable pub edge_at : List ℕ → ℕ → EdgeRead
+unfoldable pub edge_at : List ℕ → ℕ → Result (Option (Edge × ℕ)) CdError
 unfolding optional skip
 edge_at s at = let i = skip (drop at s) at in optional (drop i s) i

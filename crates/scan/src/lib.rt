@@ -5,17 +5,16 @@ ghost use Rattle.std.specs.Prelude.{true, ◌≡◌, ◌+◌, ◌*◌, ◌-◌, 
 ghost use Rattle.scan.specs.Bytes.{is_space, is_digit, digit};
 ghost use Rattle.scan.specs.Spaces.{skip};
 ghost use Rattle.scan.specs.Edges.{sort_of, empty, closes, edge, last_two, run, edge_at};
-ghost use Rattle.scan.specs.Kept.{kept};
+ghost use Rattle.scan.specs.Kept.{open_part, kept, kept_if_any};
+ghost use Rattle.float.specs.Pick.{pick};
 
 use cd::{CdError, Edge};
 
+#[tactic(auto, unfolding(crate::specs::Bytes::is_space, crate::specs::Bytes::within))]
 pub fn is_space(b: u8) -> bool
     ensures { result ≡ is_space b }
 {
-    match b {
-        9..=13 | 32 => true,
-        _ => false,
-    }
+    matches!(b, 9..=13 | 32)
 }
 
 // The place of the first byte from `at` on that is no space, or the length.
@@ -23,33 +22,26 @@ pub fn skip_whitespace(s: &[u8], at: usize) -> usize
     requires { at ≤ length s.now }
     ensures { (result ≡ skip (drop at s.now) at) × (result ≤ length s.now) × (at ≤ result) }
 {
-    let mut i = at;
-    while i < s.len() {
-        if is_space(s[i]) {
-            i += 1;
-        } else {
-            return i;
-        }
+    match s[at..].iter().position(|b| !is_space(*b)) {
+        Some(n) => at + n,
+        None => s.len(),
     }
-    i
 }
 
+#[tactic(auto, unfolding(crate::specs::Bytes::is_digit, crate::specs::Bytes::within))]
 pub fn is_digit(b: u8) -> bool
     ensures { result ≡ is_digit b }
 {
-    match b {
-        b'0'..=b'9' => true,
-        _ => false,
-    }
+    b.is_ascii_digit()
 }
 
 // A number with one digit more, or `most` where it would exceed that.
+#[tactic(auto, unfolding(crate::specs::Bytes::is_digit, crate::specs::Bytes::within))]
 pub fn grown(v: u64, b: u8, most: u64) -> u64
     requires { (v ≤ most) × (most ≤ 1000000000000000) × (is_digit b ≡ true) }
     ensures { result ≡ min (v * 10 + digit b) most }
 {
-    let next = v * 10 + (b as u64 - 48);
-    if next < most { next } else { most }
+    (v * 10 + u64::from(b - b'0')).min(most)
 }
 
 // What a byte is to an edge's run.
@@ -61,6 +53,7 @@ pub enum Sort {
     Other,
 }
 
+#[tactic(auto, unfolding(crate::specs::Edges::sort_of, crate::specs::Edges::ends_run, crate::specs::Bytes::is_digit, crate::specs::Bytes::within))]
 pub fn sort_of(b: u8) -> Sort
     ensures { result ≡ sort_of b }
 {
@@ -72,108 +65,81 @@ pub fn sort_of(b: u8) -> Sort
     }
 }
 
-// The number before the last slash, if there was one.
-#[derive(Clone, Copy)]
-pub enum Before {
-    Nothing,
-    Number(u32),
-}
-
-#[derive(Clone, Copy)]
-pub enum EdgeRead {
-    NoEdge,
-    // The edge, and the place after it.
-    Read(Edge, usize),
-    Refused(CdError),
-}
-
 // The edge of two numbers in lowest terms, or a refusal with the numbers as typed; `i` is the place after its run.
-pub fn rational(num: u32, den: u32, i: usize) -> EdgeRead
+#[tactic(auto, unfolding(crate::specs::Edges::edge, crate::specs::Kept::kept))]
+pub fn rational(num: u32, den: u32, i: usize) -> Result<(Edge, usize), CdError>
     requires { 0 < i }
     ensures { result ≡ kept (edge num den i) }
 {
     if cd::is_edge(num, den) {
-        EdgeRead::Read(cd::reduced(Edge { num: num, den: den }), i)
+        Ok((cd::reduced(Edge { num, den }), i))
     } else {
-        EdgeRead::Refused(CdError::InvalidEdge {
-            num: num,
-            den: den,
+        Err(CdError::InvalidEdge {
+            num,
+            den,
             pos: i - 1,
         })
     }
 }
 
-// The edge of the last two parts, where the run ends at `i`.
-pub fn last_two(before: Before, last: u32, i: usize) -> EdgeRead
+// The edge of the last two parts, of the last alone if none was closed before it, where the run ends at `i`.
+#[tactic(auto, unfolding(crate::specs::Edges::last_two))]
+pub fn last_two(before: Option<u32>, last: u32, i: usize) -> Result<(Edge, usize), CdError>
     requires { 0 < i }
     ensures { result ≡ kept (last_two before last i) }
 {
     match before {
-        Before::Nothing => rational(last, 1, i),
-        Before::Number(n) => rational(n, last, i),
+        None => rational(last, 1, i),
+        Some(n) => rational(n, last, i),
     }
 }
 
-// Whether a part may close: it has a digit, and is a 32-bit number.
-pub fn closes(value: u64, some: bool) -> bool
-    ensures { result ≡ closes (record { value = value; some = some }) }
+// The number of a part that closes at `i`, if it has a digit and is a 32-bit number.
+#[tactic(auto, unfolding(crate::specs::Edges::closes))]
+pub fn closed(part: Option<u64>, i: usize) -> Result<u32, CdError>
+    requires { 0 < i }
+    ensures { let p = open_part part in result ≡ pick (closes p) (Ok p.value) (Err (CdError.ParseError (i - 1))) }
 {
-    if value < 0x1_0000_0000 { some } else { false }
+    match part {
+        Some(value) if value < 0x1_0000_0000 => Ok(value as u32),
+        _ => Err(CdError::ParseError { pos: i - 1 }),
+    }
 }
 
 // The edge whose run starts at `at`. The open part's value is kept up to 2^32, where all that is no 32-bit number stands.
-// (Part and value are locals, and a step has no answer of its own: it would go through memory at each byte.)
-pub fn parse_edge(s: &[u8], at: usize) -> EdgeRead
+// (The parts are locals, and a step has no answer of its own: it would go through memory at each byte.)
+#[tactic(auto, using(crate::proofs::Runs::run_laws), unfolding(crate::specs::Kept::kept))]
+pub fn parse_edge(s: &[u8], at: usize) -> Result<(Edge, usize), CdError>
     requires { (0 < at) × (at ≤ length s.now) }
-    ensures { result ≡ kept (run (drop at s.now) at Before.Nothing empty) }
+    ensures { result ≡ kept (run (drop at s.now) at None empty) }
 {
-    let mut value = 0;
-    let mut some = false;
-    let mut before = Before::Nothing;
-    let mut i = at;
-    while i < s.len() {
+    let mut before = None;
+    let mut part = None;
+    for i in at..s.len() {
         let b = s[i];
         match sort_of(b) {
-            Sort::Digit => {
-                value = grown(value, b, 0x1_0000_0000);
-                some = true;
-                i += 1;
-            }
+            Sort::Digit => part = Some(grown(part.unwrap_or(0), b, 0x1_0000_0000)),
             Sort::Slash => {
-                if closes(value, some) {
-                    before = Before::Number(value as u32);
-                    value = 0;
-                    some = false;
-                    i += 1;
-                } else {
-                    return EdgeRead::Refused(CdError::ParseError { pos: i - 1 });
-                }
+                before = Some(closed(part, i)?);
+                part = None;
             }
-            Sort::Terminator => {
-                if closes(value, some) {
-                    return last_two(before, value as u32, i);
-                } else {
-                    return EdgeRead::Refused(CdError::ParseError { pos: i - 1 });
-                }
-            }
-            Sort::Other => {
-                return EdgeRead::Refused(CdError::InvalidSymbol { pos: i });
-            }
+            Sort::Terminator => return last_two(before, closed(part, i)?, i),
+            Sort::Other => return Err(CdError::InvalidSymbol { pos: i }),
         }
     }
-    EdgeRead::Refused(CdError::UnexpectedEnding { pos: i })
+    Err(CdError::UnexpectedEnding { pos: s.len() })
 }
 
-// An optional edge at `at`, after spaces.
-pub fn create_edge(s: &[u8], at: usize) -> EdgeRead
+// An optional edge at `at`, after spaces, and the place after it.
+#[tactic(auto, using(crate::proofs::Runs::edge_laws))]
+pub fn create_edge(s: &[u8], at: usize) -> Result<Option<(Edge, usize)>, CdError>
     requires { (0 < at) × (at ≤ length s.now) }
-    ensures { result ≡ kept (edge_at s.now at) }
+    ensures { result ≡ kept_if_any (edge_at s.now at) }
 {
     let i = skip_whitespace(s, at);
-    if i < s.len() {
-        if is_digit(s[i]) {
-            return parse_edge(s, i);
-        }
+    if i < s.len() && is_digit(s[i]) {
+        Ok(Some(parse_edge(s, i)?))
+    } else {
+        Ok(None)
     }
-    EdgeRead::NoEdge
 }

@@ -1,39 +1,19 @@
--- `cd::from_char` meets its contract: at each letter antt computes the table's entry, the root for k too, and at any other byte each test fails.
---
+-- `cd::from_char` meets its contract: at each letter antt computes the table's entry, the root for k too.
 use Prim.Native.Nat.{ℕ}
-use Prim.Native.Char.{code}
-use mathlib.Core.List.{List, [], ◌∷◌}
-use mathlib.Core.Path.{◌≡◌, refl, sym, ap}
-use borrow.Author.Tests.{ne_eqb}
+use mathlib.Core.Path.{sym, ap}
+use Rattle.std.specs.Prelude.{Option}
 use lib.Ieee.{of_bits, add, sub, mul, div}
 use Rattle.float.specs.Numbers.{whole}
 use Rattle.float.specs.Constants.{R2, R3, R5}
 use Rattle.float.specs.Root.{root_of}
-use Rattle.cd.specs.Letters.{Entry, letters, find, letter_of}
-use Rattle.cd.specs.declared.Letter.{Letter}
-use Rattle.cd.specs.declared.Letter.TheVariants.{Unknown}
+use Rattle.cd.specs.Letters.{letters, find, letter_of}
+use Rattle.cd.specs.declared.Node.{Node}
 use Rattle.cd.proofs.from_char.Goals as goal
 
 -- the definition, with all that it computes by
-computed : ℕ → Letter
+computed : ℕ → Option Node
 unfolding letter_of letters find whole R2 R3 R5 root_of of_bits add sub mul div
 computed b = letter_of b
-
--- b is the letter of no entry, in the form in which a `match` tells it
-abbrev Others : Type 0 → List Entry → ℕ → Type 0
-Others X [] b = X
-Others X (e ∷ es) b = Others (X × (b ≡ code e.letter → ⊥)) es b
-
-no_entry : (X : Type 0) (es : List Entry) (b : ℕ) → Others X es b → X × (Unknown ≡ find es b)
-unfolding find
-no_entry X [] b h = (h, refl)
-no_entry X (e ∷ es) b h =
-    let r = no_entry (X × (b ≡ code e.letter → ⊥)) es b h in
-    (r.0.0, rw (ne_eqb b (code e.letter) r.0.1) r.1)
-
-pub returns-in-111 : goal.returns-in-111
-unfolding computed
-returns-in-111 c = sym (ap computed c.in-111.is)
 
 pub returns-in-115 : goal.returns-in-115
 unfolding computed
@@ -106,7 +86,3 @@ returns-in-88 c = sym (ap computed c.in-88.is)
 pub returns-in-66 : goal.returns-in-66
 unfolding computed
 returns-in-66 c = sym (ap computed c.in-66.is)
-
-pub returns-in_default : goal.returns-in_default
-unfolding letter_of letters
-returns-in_default c = (no_entry (Unit {0}) letters _ c.in_default.in_default-own.rest).1

@@ -1,19 +1,9 @@
 -- `cd::gcd` meets its contract; Invariants.antt has the argument.
-use mathlib.Core.Path.{◌≡◌, refl, sym, ap, ◌∙◌}
-use native.Mathlib.Nat.{mod-lt}
+use mathlib.Core.Path.{◌≡◌, sym, ap, ◌∙◌}
 use native.Mathlib.Omega.{arith}
 use Rattle.filing.specs.Fractions.{gcd as the_gcd}
 use Rattle.filing.proofs.Gcd.{gcd_zero, gcd_one, gcd_pos}
 use Rattle.cd.proofs.gcd.Goals as goal
-
-pub loop-y-init : goal.loop-y-init
-loop-y-init c = refl
-
-pub nonzero_rem-rest : goal.nonzero_rem-rest
-nonzero_rem-rest c = omega (arith, c.loop-y-test.true)
-
-pub loop-y-smaller : goal.loop-y-smaller
-loop-y-smaller c = mod-lt _ (omega (arith, c.loop-y-test.true))
 
 pub loop-y-preserved : goal.loop-y-preserved
 loop-y-preserved c = sym (gcd_pos c.loop-y.x (omega (arith, c.loop-y-test.true))) ∙ c.loop-y.invariant

@@ -1,26 +1,23 @@
 -- `length::take_digits` meets its contract; Invariants.antt has the argument.
 use Prim.Native.Nat.{◌≤◌}
-use mathlib.Core.Path.{sym, ◌∙◌}
+use mathlib.Core.Path.{◌≡◌, sym}
 use native.Mathlib.Omega.{arith}
-use borrow.Author.Rules.{rules}
+use lib.ListN.{length}
 use Rattle.length.proofs.Runs.{took_digit, took_at_other, took_at_end}
 use Rattle.length.proofs.take_digits.Goals as goal
 
-pub grown-value-requires : goal.grown-value-requires
-grown-value-requires c = (search rules, search rules, sym c.is_digit.ensures ∙ c.if-is_digit.true)
+pub returns-then-not-is_digit : goal.returns-then-not-is_digit
+returns-then-not-is_digit c =
+    let k = c.loop-i.invariant in
+    k.1 _ (took_at_other _ _ _ _ c.loop-i-test.true (sym c.if-not-is_digit.ensures) k.0)
 
 pub loop-i-preserved : goal.loop-i-preserved
 loop-i-preserved c =
-    let k = c.loop-i.invariant in
     let small : c.grown-value.result ≤ c.args.most = omega (arith, c.grown-value.ensures) in
-    (search rules, small, λ r h. k.2 r (took_digit _ _ _ _ r c.loop-i-test.true (sym c.is_digit.ensures ∙ c.if-is_digit.true) (rw c.grown-value.ensures at h)))
-
-pub returns-else-is_digit : goal.returns-else-is_digit
-returns-else-is_digit c =
-    let k = c.loop-i.invariant in
-    k.2 _ (took_at_other _ _ _ _ c.loop-i-test.true (sym c.is_digit.ensures ∙ c.if-is_digit.false) k.1)
+    (small, λ r h. c.loop-i.invariant.1 r (took_digit _ _ _ _ r c.loop-i-test.true (sym c.if-not-is_digit.ensures) (rw c.grown-value.ensures at h)))
 
 pub returns : goal.returns
 returns c =
     let k = c.loop-i.invariant in
-    k.2 _ (took_at_end _ _ _ _ k.0 c.loop-i-test.false k.1)
+    let end : c.loop-i.i ≡ length c.args.t.now = omega arith in
+    k.1 _ (rw (← end) (took_at_end _ _ _ _ (omega arith) (omega arith) k.0))

@@ -3,4 +3,4 @@ use Rattle.minimal.proofs.Links.{labelled_stored}
 use Rattle.minimal.proofs.components.Goals as goal
 
 pub returns : goal.returns
-returns c ns es held = labelled_stored _ ns es held c.requires _ (rw c.marks-m.ensures at c.labels.ensures)
+returns c ns es held = labelled_stored _ ns es held c.requires _ c.labels.ensures

@@ -1,6 +1,6 @@
 -- `minimal::minimal` meets its contract. The outer invariant: each label below c that is its own has a ringed node; the inner: none of the nodes below i
--- that have the label c is ringed. The measures are what is left of the nodes.
-use Prim.Native.Nat.{ℕ, ◌≤◌, ◌<◌, ◌-◌}
+-- that have the label c is ringed.
+use Prim.Native.Nat.{ℕ, ◌<◌}
 use mathlib.Core.Bool.{false}
 use mathlib.Core.Path.{◌≡◌}
 use Rattle.minimal.specs.Labels.{label_in}
@@ -8,13 +8,7 @@ use Rattle.minimal.proofs.Rings.{ringed_in, RingIn}
 use Rattle.minimal.proofs.minimal.Given as goal
 
 abbrev pub invariant-loop-i : goal.invariant-loop-i
-invariant-loop-i l = (l.i ≤ l.n) × (l.c ≡ l.initial.c) × ((k : ℕ) → k < l.i → label_in l.of k ≡ l.c → ringed_in l.cd.nodes k ≡ false)
-
-abbrev pub decreases-loop-i : goal.decreases-loop-i
-decreases-loop-i l = l.n - l.i
+invariant-loop-i l = (l.c ≡ l.initial.c) × ((k : ℕ) → k < l.i → label_in l.of k ≡ l.c → ringed_in l.cd.nodes k ≡ false)
 
 abbrev pub invariant-component : goal.invariant-component
-invariant-component l = (l.c ≤ l.n) × ((k : ℕ) → k < l.c → label_in l.of k ≡ k → RingIn l.n (label_in l.of) (ringed_in l.cd.nodes) k)
-
-abbrev pub decreases-component : goal.decreases-component
-decreases-component l = l.n - l.c
+invariant-component l = (k : ℕ) → k < l.c → label_in l.of k ≡ k → RingIn l.cd.count (label_in l.of) (ringed_in l.cd.nodes) k
