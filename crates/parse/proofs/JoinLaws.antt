@@ -12,11 +12,10 @@ use lib.ListN.{length, get_or, set, take, drop, drop_of_length-le, length-append
 use lib.Seq.{drop-cons, length-take-le, get_or-take}
 use Rattle.cd.specs.Arrays.{triangle}
 use Rattle.cd.specs.Diagrams.{Stored, between, limit, place_of}
+use Rattle.std.specs.Prelude.{Option, Some, None}
 use Rattle.float.specs.Pick.{pick}
 use Rattle.cd.specs.Edges.{is_two}
 use Rattle.cd.specs.References.{index_of, both_of, ends_of}
-use Rattle.cd.specs.declared.Found.{Found}
-use Rattle.cd.specs.declared.Found.TheVariants.{At, Missing as none}
 use Rattle.cd.specs.declared.NodeRef.{NodeRef}
 use Rattle.cd.specs.declared.NodeRef.TheVariants.{Absolute, Negative}
 use Rattle.cd.specs.declared.CdError.{CdError}
@@ -30,24 +29,24 @@ use Rattle.parse.specs.Joining.{Edges, Refused, join_one, join_all}
 
 -- ---- the nodes that an edge joins are nodes
 
-index_below : (t : Bool) (i k n j : ℕ) → ltb k n ≡ t → (k < n → i < n) → pick t (At i) none ≡ At j → j < n
+index_below : (t : Bool) (i k n j : ℕ) → ltb k n ≡ t → (k < n → i < n) → pick t (Some i) None ≡ Some j → j < n
 index_below true i k n j e f q =
     let r : i ≡ j = cc in
     let l = f (ltb-true k n e) in
     omega arith
 index_below false i k n j e f q = let z : ◌≡◌ {A = ℕ} 0 1 = cc in omega arith
 
-found_below : (r : NodeRef) (n j : ℕ) → index_of r n ≡ At j → j < n
+found_below : (r : NodeRef) (n j : ℕ) → index_of r n ≡ Some j → j < n
 unfolding index_of
 found_below (Absolute k) n j q = index_below (ltb k n) k k n j refl (λ h. h) q
 found_below (Negative k) n j q = index_below (ltb k n) (n - 1 - k) k n j refl (λ h. omega arith) q
 
-both_below : (t : Bool) (p q : Found) (a b n : ℕ) → ((j : ℕ) → p ≡ At j → j < n) → ((j : ℕ) → q ≡ At j → j < n) → pick t Dropped (both_of p q) ≡ Both a b → (a < n) × (b < n)
+both_below : (t : Bool) (p q : Option ℕ) (a b n : ℕ) → ((j : ℕ) → p ≡ Some j → j < n) → ((j : ℕ) → q ≡ Some j → j < n) → pick t Dropped (both_of p q) ≡ Both a b → (a < n) × (b < n)
 unfolding both_of
 both_below true p q a b n f g h = let z : ◌≡◌ {A = ℕ} 0 1 = cc in omega arith
-both_below false none q a b n f g h = let z : ◌≡◌ {A = ℕ} 0 1 = cc in omega arith
-both_below false (At i) none a b n f g h = let z : ◌≡◌ {A = ℕ} 0 1 = cc in omega arith
-both_below false (At i) (At j) a b n f g h =
+both_below false None q a b n f g h = let z : ◌≡◌ {A = ℕ} 0 1 = cc in omega arith
+both_below false (Some i) None a b n f g h = let z : ◌≡◌ {A = ℕ} 0 1 = cc in omega arith
+both_below false (Some i) (Some j) a b n f g h =
     let u : i ≡ a = cc in
     let v : j ≡ b = cc in
     let k = f i refl in

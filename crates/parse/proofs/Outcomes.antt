@@ -9,27 +9,26 @@ use native.Mathlib.Omega.{arith}
 use borrow.Author.Tests.{leb-false, ltb-true, ltb-false}
 use lib.Dec.{ltb, leb}
 use lib.ListN.{length, drop, length-append, length-drop}
+use Rattle.std.specs.Prelude.{Option, Some, None, Result, Ok, Err}
 use Rattle.float.specs.Pick.{pick}
 use Rattle.cd.specs.Diagrams.{Stored, limit}
 use Rattle.cd.specs.declared.CdError.{CdError}
 use Rattle.cd.specs.declared.CdError.TheVariants.{TooManyNodes}
+use Rattle.cd.specs.declared.Edge.{Edge}
 use Rattle.cd.specs.declared.Node.{Node}
 use Rattle.cd.specs.declared.NodeRef.TheVariants.{Absolute}
 use Rattle.scan.specs.Spaces.{skip}
 use Rattle.scan.specs.Edges.{edge_at}
-use Rattle.scan.specs.declared.EdgeRead.{EdgeRead}
-use Rattle.scan.specs.declared.EdgeRead.TheVariants as edge
 use Rattle.scan.proofs.Places.{edge_next}
 use Rattle.scan.proofs.Spaces.{skip_bounds}
-use Rattle.node.specs.Nodes.{node_at}
+use Rattle.node.specs.Nodes.{Read, node_at}
 use Rattle.parse.specs.Text.{Seen, start, Outcome, On, Refused, onto, Joint, Without, With, queued, taken, node_in, after_edge, turn, turns, text_from}
 use Rattle.parse.specs.Joining.{Joined, join_all}
 use Rattle.parse.specs.Joining as joining
 use Rattle.parse.specs.Reading.{Reading, Accepted, with_edges, joined, high, kept, read}
 use Rattle.parse.specs.Reading as reading
-use Rattle.node.specs.declared.NodeRead.{NodeRead}
 use Rattle.node.specs.declared.NodeRead.TheVariants as node
-use Rattle.node.proofs.Ahead.{node_ahead, reference_ahead}
+use Rattle.node.proofs.Ahead.{read_ahead}
 
 -- reading goes on from lo or later, with at most `limit` nodes
 data Fine (lo : ℕ) : Outcome → Type 0 where
@@ -53,11 +52,11 @@ fine_added false n next i j st e h =
     on h f
 
 module _ (wish : Bool) (s : List ℕ) where
-  fine_taken : (x : NodeRead) (i : ℕ) (j : Joint) (st : Seen) → i ≤ length s → x ≡ node_at wish (drop i s) i → length st.nodes ≤ limit → Fine (i + 1) (taken x i j st)
+  fine_taken : (x : Read) (i : ℕ) (j : Joint) (st : Seen) → i ≤ length s → x ≡ node_at wish (drop i s) i → length st.nodes ≤ limit → Fine (i + 1) (taken x i j st)
   unfolding taken
-  fine_taken (node.Refused r) i j st h e f = refused
-  fine_taken (node.Referred this next) i j st h e f = let l : i + 1 ≤ next = omega (arith, reference_ahead wish s i this next h (sym e)) in on l f
-  fine_taken (node.Added n next) i j st h e f = fine_added (leb limit (length st.nodes)) n next i j st refl (omega (arith, node_ahead wish s i n next h (sym e)))
+  fine_taken (Err r) i j st h e f = refused
+  fine_taken (Ok (node.Referred this, next)) i j st h e f = let l : i + 1 ≤ next = omega (arith, read_ahead wish s i (node.Referred this) next h (sym e)) in on l f
+  fine_taken (Ok (node.Added n, next)) i j st h e f = fine_added (leb limit (length st.nodes)) n next i j st refl (omega (arith, read_ahead wish s i (node.Added n) next h (sym e)))
 
   fine_node : (at : ℕ) (j : Joint) (st : Seen) → at ≤ length s → length st.nodes ≤ limit → Fine (at + 1) (node_in wish s at j st)
   unfolding node_in
@@ -66,11 +65,11 @@ module _ (wish : Bool) (s : List ℕ) where
       let b = skip_bounds (drop at s) at in
       fine_later (fine_taken (node_at wish (drop i s) i) i j st (omega (arith, b, length-drop at s)) refl f) (omega (arith, b))
 
-  fine_after : (x : EdgeRead) (at : ℕ) (st : Seen) → at ≤ length s → x ≡ edge_at s at → length st.nodes ≤ limit → Fine (at + 1) (after_edge wish x s at st)
+  fine_after : (x : Result (Option (Edge × ℕ)) CdError) (at : ℕ) (st : Seen) → at ≤ length s → x ≡ edge_at s at → length st.nodes ≤ limit → Fine (at + 1) (after_edge wish x s at st)
   unfolding after_edge
-  fine_after edge.NoEdge at st h e f = fine_node at Without st h f
-  fine_after (edge.Read d next) at st h e f = let b = edge_next s at d next h (sym e) in fine_later (fine_node next (With d) st b.1 f) (omega (arith, b))
-  fine_after (edge.Refused r) at st h e f = refused
+  fine_after (Ok None) at st h e f = fine_node at Without st h f
+  fine_after (Ok (Some (d, next))) at st h e f = let b = edge_next s at d next h (sym e) in fine_later (fine_node next (With d) st b.1 f) (omega (arith, b))
+  fine_after (Err r) at st h e f = refused
 
   fine_turn : (at : ℕ) (st : Seen) → at ≤ length s → length st.nodes ≤ limit → Fine (at + 1) (turn wish s at st)
   unfolding turn

@@ -1,7 +1,7 @@
 -- The loop that reads a text, in the terms of its locals: what is read from here on gives what the whole text gives (`Due` before a node, `After` behind
 -- one). Each turn reads a byte, so the turns allowed, at first the length of the text, never run out. The code's queue has edges in lowest terms;
 -- `typed` is the queue as document 01 has it. Assumes nothing.
-use Rattle.std.specs.Prelude.{Result, Ok}
+use Rattle.std.specs.Prelude.{Option, Some, None, Result, Ok, Err}
 use Prim.Native.Nat.{ℕ, zero, suc, ◌+◌, ◌*◌, ◌≤◌, ◌<◌}
 use mathlib.Core.Bool.{Bool}
 use mathlib.Core.List.{List, [], ◌∷◌, ◌++◌, map, map-append}
@@ -9,10 +9,8 @@ use mathlib.Core.Path.{◌≡◌, refl, sym, ap, ◌∙◌}
 use native.Mathlib.Numerals.{add-one}
 use native.Mathlib.Omega.{arith}
 use borrow.Author.Tests.{lt-ltb, le-ltb, le-leb, lt-leb}
-use lib.Dec.{ltb}
 use lib.ListN.{length, take, drop, set, length-map, length-set}
 use lib.Seq.{length-take-le, take-suc-set}
-use Rattle.float.specs.Pick.{pick}
 use Rattle.cd.specs.Arrays.{padded, triangle}
 use Rattle.cd.specs.Diagrams.{Stored, between, limit, place, cd_of}
 use Rattle.cd.specs.declared.Cd.{Cd}
@@ -26,23 +24,19 @@ use Rattle.cd.specs.declared.NodeRef.{NodeRef}
 use Rattle.cd.specs.declared.NodeRef.TheVariants.{Absolute}
 use Rattle.cd.specs.declared.Place.{Place}
 use Rattle.cd.proofs.Arrays.{length_padded, set_padded}
-use Rattle.cd.proofs.LowestTerms.{reduced_num_positive}
 use Rattle.scan.specs.Spaces.{skip}
 use Rattle.scan.specs.Edges.{edge_at}
-use Rattle.scan.specs.Kept.{kept as the_kept}
-use Rattle.scan.specs.declared.EdgeRead.{EdgeRead}
-use Rattle.scan.specs.declared.EdgeRead.TheVariants as edge
-use Rattle.scan.proofs.Places.{edge_next, edge_valid}
+use Rattle.scan.specs.Kept.{kept_if_any}
+use Rattle.scan.proofs.Places.{edge_next}
 use Rattle.scan.proofs.KeptLaws.{kept_none, kept_refused, kept_read}
-use Rattle.node.specs.Nodes.{node_at}
+use Rattle.node.specs.Nodes.{Read, node_at}
 use Rattle.parse.specs.Text.{Seen, Outcome, On, Refused, onto, Joint, Without, With, queued, taken, node_in, after_edge, turn, turns, text_from}
-use Rattle.node.proofs.Ahead.{node_ahead, reference_ahead}
+use Rattle.node.proofs.Ahead.{read_ahead}
 use Rattle.parse.specs.Joining.{join_all}
 use Rattle.parse.specs.Joining as joining
 use Rattle.parse.specs.Reading.{answer, joined, kept, with_edges}
 use Rattle.parse.specs.Reading as gives
 use Rattle.parse.specs.declared.Queue.{Queue}
-use Rattle.node.specs.declared.NodeRead.{NodeRead}
 use Rattle.node.specs.declared.NodeRead.TheVariants as node
 use Rattle.parse.proofs.KeptEdges.{kept_ref, kept_joint, queued_kept, reading_kept}
 
@@ -54,9 +48,15 @@ held nodes count = map (λ (p : Place). p.node) (take count nodes)
 abbrev pub waits : Queue → List EdgeRef
 waits q = take q.count q.at
 
--- an edge whose num is 0 is none
-unfoldable pub joint : Edge → Joint
-joint e = pick (ltb 0 e.num) (With e) Without
+-- the edge read last, if one was
+unfoldable pub joint : Option Edge → Joint
+joint None = Without
+joint (Some e) = With e
+
+-- how many edges that is
+abbrev pub waiting_edges : Option Edge → ℕ
+waiting_edges None = 0
+waiting_edges (Some e) = 1
 
 -- what was read of the text, its queue as typed
 abbrev pub read_of : List Place → ℕ → List EdgeRef → NodeRef → Seen
@@ -65,12 +65,11 @@ read_of nodes count typed prev = record { nodes = held nodes count; queue = type
 -- ---- before a node
 
 -- the edges that wait, and the one read last, are those typed in lowest terms
-pub record Due (wish : Bool) (s : List ℕ) (start : ℕ) (nodes : List Place) (count : ℕ) (q : Queue) (at : ℕ) (prev : NodeRef) (e : Edge) : Type 0 where
+pub record Due (wish : Bool) (s : List ℕ) (start : ℕ) (nodes : List Place) (count : ℕ) (q : Queue) (at : ℕ) (prev : NodeRef) (e : Option Edge) : Type 0 where
   pub places : nodes ≡ padded (place Unringed) limit (take count nodes)
   pub few : count ≤ limit
   pub slots : length q.at ≡ 128
-  pub room : 2 * q.count ≤ at
-  pub spare : 0 < e.num → 2 * q.count + 1 ≤ at
+  pub room : 2 * q.count + waiting_edges e ≤ at
   pub upto : at ≤ length s
   pub typed : List EdgeRef
   pub waiting : waits q ≡ map kept_ref typed
@@ -81,7 +80,7 @@ pub record Due (wish : Bool) (s : List ℕ) (start : ℕ) (nodes : List Place) (
   pub going : onto (node_in wish s at edge (read_of nodes count typed prev)) (turns wish left s) ≡ text_from wish s start
 
 pub due_start : (wish : Bool) (s : List ℕ) (start : ℕ) (nodes : List Place) (slots : List EdgeRef) → start ≤ length s → nodes ≡ padded (place Unringed) limit [] → length slots ≡ 128
-    → Due wish s start nodes 0 (record { at = slots; count = 0 }) start (Absolute 0) (record { num = 0; den = 0 })
+    → Due wish s start nodes 0 (record { at = slots; count = 0 }) start (Absolute 0) None
 unfolding text_from joint
 due_start wish s start nodes slots h p l =
     record {
@@ -89,7 +88,6 @@ due_start wish s start nodes slots h p l =
       few = omega arith;
       slots = l;
       room = omega arith;
-      spare = λ (z : 0 < 0). omega arith;
       upto = h;
       typed = [];
       waiting = refl;
@@ -102,7 +100,7 @@ due_start wish s start nodes slots h p l =
 
 -- ---- a node or a reference was read, and a node was stored
 
-pub record Found {wish : Bool} {s : List ℕ} {start : ℕ} {nodes : List Place} {count : ℕ} {q : Queue} {at : ℕ} {prev : NodeRef} {e : Edge} (k : Due wish s start nodes count q at prev e)
+pub record Found {wish : Bool} {s : List ℕ} {start : ℕ} {nodes : List Place} {count : ℕ} {q : Queue} {at : ℕ} {prev : NodeRef} {e : Option Edge} (k : Due wish s start nodes count q at prev e)
     (nodes' : List Place) (count' : ℕ) (this : NodeRef) (next : ℕ) : Type 0 where
   pub places : nodes' ≡ padded (place Unringed) limit (take count' nodes')
   pub few : count' ≤ limit
@@ -139,36 +137,36 @@ module _ (nodes : List Place) (count : ℕ) (places : nodes ≡ padded (place Un
         ∙ set_padded (place Unringed) (place n) limit (take count nodes) (omega arith)
         ∙ ap (padded (place Unringed) limit) (sym (take_set nodes count (place n) (omega (arith, nodes_long))))
 
-node_is : (wish : Bool) (s : List ℕ) (at i : ℕ) (j : Joint) (st : Seen) (x : NodeRead) → i ≡ skip (drop at s) at → x ≡ node_at wish (drop i s) i → node_in wish s at j st ≡ taken x i j st
+node_is : (wish : Bool) (s : List ℕ) (at i : ℕ) (j : Joint) (st : Seen) (x : Read) → i ≡ skip (drop at s) at → x ≡ node_at wish (drop i s) i → node_in wish s at j st ≡ taken x i j st
 unfolding node_in
 node_is wish s at i j st x h k = rw (← h, ← k)
 
-module _ {wish : Bool} {s : List ℕ} {start : ℕ} {nodes : List Place} {count : ℕ} {q : Queue} {at : ℕ} {prev : NodeRef} {e : Edge} (k : Due wish s start nodes count q at prev e)
-    (i : ℕ) (x : NodeRead) (skipped : i ≡ skip (drop at s) at) (after : at ≤ i) (inside : i ≤ length s) (read : x ≡ node_at wish (drop i s) i) where
+module _ {wish : Bool} {s : List ℕ} {start : ℕ} {nodes : List Place} {count : ℕ} {q : Queue} {at : ℕ} {prev : NodeRef} {e : Option Edge} (k : Due wish s start nodes count q at prev e)
+    (i : ℕ) (x : Read) (skipped : i ≡ skip (drop at s) at) (after : at ≤ i) (inside : i ≤ length s) (read : x ≡ node_at wish (drop i s) i) where
   abbrev st : Seen
   st = read_of nodes count k.typed prev
 
   reading : onto (taken x i k.edge st) (turns wish k.left s) ≡ text_from wish s start
   reading = rw (node_is wish s at i k.edge st x skipped read) at k.going
 
-  pub node_refused : (r : CdError) → x ≡ node.Refused r → text_from wish s start ≡ Refused r
+  pub node_refused : (r : CdError) → x ≡ Err r → text_from wish s start ≡ Refused r
   unfolding taken
   node_refused r h = sym (rw h at reading)
 
-  pub node_tenth : (n : Node) (next : ℕ) → x ≡ node.Added n next → limit ≤ count → text_from wish s start ≡ Refused (TooManyNodes i)
+  pub node_tenth : (n : Node) (next : ℕ) → x ≡ Ok (node.Added n, next) → limit ≤ count → text_from wish s start ≡ Refused (TooManyNodes i)
   unfolding taken
   node_tenth n next h f = sym (rw (h, held_long nodes count k.places k.few, le-leb limit count f) at reading)
 
-  pub found_reference : (this : NodeRef) (next : ℕ) → x ≡ node.Referred this next → Found k nodes count this next
+  pub found_reference : (this : NodeRef) (next : ℕ) → x ≡ Ok (node.Referred this, next) → Found k nodes count this next
   unfolding taken
   found_reference this next h =
-      let a = reference_ahead wish s i this next inside (sym read ∙ h) in
+      let a = read_ahead wish s i (node.Referred this) next inside (sym read ∙ h) in
       record { places = k.places; few = k.few; ahead = omega (arith, a); upto = a.1; left = k.left; enough = omega (arith, a, k.enough); turned = rw h at reading }
 
-  pub found_node : (n : Node) (next : ℕ) → x ≡ node.Added n next → count < limit → Found k (set nodes count (place n)) (count + 1) (Absolute count) next
+  pub found_node : (n : Node) (next : ℕ) → x ≡ Ok (node.Added n, next) → count < limit → Found k (set nodes count (place n)) (count + 1) (Absolute count) next
   unfolding taken
   found_node n next h f =
-      let a = node_ahead wish s i n next inside (sym read ∙ h) in
+      let a = read_ahead wish s i (node.Added n) next inside (sym read ∙ h) in
       record {
         places = places_more nodes count k.places n f;
         few = omega arith;
@@ -194,7 +192,7 @@ pub record After (wish : Bool) (s : List ℕ) (start at : ℕ) (nodes : List Pla
   pub enough : length s < left + next
   pub turned : turns wish left s next (read_of nodes count typed prev) ≡ text_from wish s start
 
-module _ {wish : Bool} {s : List ℕ} {start : ℕ} {nodes : List Place} {count : ℕ} {q : Queue} {at : ℕ} {prev : NodeRef} {e : Edge} (k : Due wish s start nodes count q at prev e)
+module _ {wish : Bool} {s : List ℕ} {start : ℕ} {nodes : List Place} {count : ℕ} {q : Queue} {at : ℕ} {prev : NodeRef} {e : Option Edge} (k : Due wish s start nodes count q at prev e)
     {nodes' : List Place} {count' : ℕ} {this : NodeRef} {next : ℕ} (f : Found k nodes' count' this next) where
   -- the queue with the edge read before this node, as typed and as it waits
   abbrev longer : List EdgeRef
@@ -206,25 +204,26 @@ module _ {wish : Bool} {s : List ℕ} {start : ℕ} {nodes : List Place} {count 
       ∙ ap (λ (j : Joint). queued j (read_of nodes count (map kept_ref k.typed) prev) this) k.last
       ∙ sym (queued_kept k.edge (read_of nodes count k.typed prev) this)
 
-  pub edge_waits : 0 < e.num → q.count < 128 → After wish s start at nodes' count' (record { at = set q.at q.count (record { first = prev; other = this; edge = e }); count = q.count + 1 }) this next
+  pub edge_waits : (x : Edge) → e ≡ Some x → q.count < 128 → After wish s start at nodes' count' (record { at = set q.at q.count (record { first = prev; other = this; edge = x }); count = q.count + 1 }) this next
   unfolding joint queued
-  edge_waits h b =
-      let w : EdgeRef = record { first = prev; other = this; edge = e } in
+  edge_waits x h b =
+      let w : EdgeRef = record { first = prev; other = this; edge = x } in
+      let room : 2 * q.count + 1 ≤ at = rw h at k.room in
       record {
         places = f.places;
         few = f.few;
         slots = length-set q.at q.count w ∙ k.slots;
-        room = omega (arith, k.spare h, f.ahead);
+        room = omega (arith, room, f.ahead);
         ahead = f.ahead;
         upto = f.upto;
         typed = longer;
-        waiting = take_set q.at q.count w (omega (arith, k.slots)) ∙ rw (lt-ltb 0 e.num h) at longer_kept;
+        waiting = take_set q.at q.count w (omega (arith, k.slots)) ∙ rw h at longer_kept;
         left = f.left;
         enough = f.enough;
         turned = f.turned;
       }
 
-  pub none_waits : e.num ≤ 0 → After wish s start at nodes' count' q this next
+  pub none_waits : e ≡ None → After wish s start at nodes' count' q this next
   unfolding joint queued
   none_waits h =
       record {
@@ -235,7 +234,7 @@ module _ {wish : Bool} {s : List ℕ} {start : ℕ} {nodes : List Place} {count 
         ahead = f.ahead;
         upto = f.upto;
         typed = longer;
-        waiting = rw (le-ltb 0 e.num h) at longer_kept;
+        waiting = rw h at longer_kept;
         left = f.left;
         enough = f.enough;
         turned = f.turned;
@@ -269,24 +268,23 @@ module _ {wish : Bool} {s : List ℕ} {start at : ℕ} {nodes : List Place} {cou
   m : next < length s → More wish a.left s next read_so_far
   m inside = more wish a.left s next read_so_far inside a.enough
 
-  module _ (inside : next < length s) (x : EdgeRead) (read : x ≡ the_kept (edge_at s next)) where
-    turning : (y : EdgeRead) → edge_at s next ≡ y → onto (after_edge wish y s next read_so_far) (turns wish (m inside).less s) ≡ text_from wish s start
+  module _ (inside : next < length s) (x : Result (Option (Edge × ℕ)) CdError) (read : x ≡ kept_if_any (edge_at s next)) where
+    turning : (y : Result (Option (Edge × ℕ)) CdError) → edge_at s next ≡ y → onto (after_edge wish y s next read_so_far) (turns wish (m inside).less s) ≡ text_from wish s start
     unfolding turn
-    turning y h = ap (λ (z : EdgeRead). onto (after_edge wish z s next read_so_far) (turns wish (m inside).less s)) (sym h) ∙ sym (m inside).is ∙ a.turned
+    turning y h = ap (λ (z : Result (Option (Edge × ℕ)) CdError). onto (after_edge wish z s next read_so_far) (turns wish (m inside).less s)) (sym h) ∙ sym (m inside).is ∙ a.turned
 
-    pub edge_refused : (r : CdError) → x ≡ edge.Refused r → text_from wish s start ≡ Refused r
+    pub edge_refused : (r : CdError) → x ≡ Err r → text_from wish s start ≡ Refused r
     unfolding after_edge
-    edge_refused r h = sym (turning (edge.Refused r) (kept_refused _ r (sym read ∙ h)))
+    edge_refused r h = sym (turning (Err r) (kept_refused _ r (sym read ∙ h)))
 
-    pub no_edge : x ≡ edge.NoEdge → Due wish s start nodes count q next prev (record { num = 0; den = 0 })
+    pub no_edge : x ≡ Ok None → Due wish s start nodes count q next prev None
     unfolding after_edge joint
     no_edge h =
         record {
           places = a.places;
           few = a.few;
           slots = a.slots;
-          room = a.room;
-          spare = λ (z : 0 < 0). omega arith;
+          room = omega (arith, a.room);
           upto = a.upto;
           typed = a.typed;
           waiting = a.waiting;
@@ -294,29 +292,27 @@ module _ {wish : Bool} {s : List ℕ} {start at : ℕ} {nodes : List Place} {cou
           last = refl;
           left = (m inside).less;
           enough = omega (arith, (m inside).one, a.enough);
-          going = turning edge.NoEdge (kept_none _ (sym read ∙ h));
+          going = turning (Ok None) (kept_none _ (sym read ∙ h));
         }
 
-    pub an_edge : (e : Edge) (to : ℕ) → x ≡ edge.Read e to → Due wish s start nodes count q to prev e × (next < to)
+    pub an_edge : (e : Edge) (to : ℕ) → x ≡ Ok (Some (e, to)) → Due wish s start nodes count q to prev (Some e) × (next < to)
     unfolding after_edge joint
     an_edge e to h =
         let t = kept_read _ e to (sym read ∙ h) in
-        let b = edge_next s next t.edge to a.upto t.read in
-        let v : 0 < e.num = rw t.reduces (reduced_num_positive t.edge (edge_valid s next t.edge to t.read)) in (
+        let b = edge_next s next t.edge to a.upto t.read in (
           record {
             places = a.places;
             few = a.few;
             slots = a.slots;
             room = omega (arith, a.room, b);
-            spare = λ (z : 0 < e.num). omega (arith, a.room, b);
             upto = b.1;
             typed = a.typed;
             waiting = a.waiting;
             edge = With t.edge;
-            last = rw (lt-ltb 0 e.num v) (ap With t.reduces);
+            last = ap With t.reduces;
             left = (m inside).less;
             enough = omega (arith, (m inside).one, a.enough, b);
-            going = turning (edge.Read t.edge to) t.read;
+            going = turning (Ok (Some (t.edge, to))) t.read;
           },
           b.0,
         )

@@ -1,6 +1,6 @@
 -- Document 01, "Reading": "A text is a node, then, while bytes remain, an optional edge and a node." Nodes and the edges that wait, in the order read.
 use Prim.Native.Nat.{ℕ, zero, suc}
-use Rattle.std.specs.Prelude.{Bool, List, [], ◌∷◌, ◌++◌, ltb, leb, length, drop}
+use Rattle.std.specs.Prelude.{Bool, List, [], ◌∷◌, ◌++◌, ltb, leb, Option, Some, None, Result, Ok, Err, length, drop}
 use Rattle.float.specs.Pick.{pick}
 use Rattle.cd.specs.Diagrams.{limit}
 use Rattle.cd.specs.declared.CdError.{CdError}
@@ -12,10 +12,7 @@ use Rattle.cd.specs.declared.NodeRef.{NodeRef}
 use Rattle.cd.specs.declared.NodeRef.TheVariants.{Absolute}
 use Rattle.scan.specs.Spaces.{skip}
 use Rattle.scan.specs.Edges.{edge_at}
-use Rattle.scan.specs.declared.EdgeRead.{EdgeRead}
-use Rattle.scan.specs.declared.EdgeRead.TheVariants as edge
-use Rattle.node.specs.Nodes.{node_at}
-use Rattle.node.specs.declared.NodeRead.{NodeRead}
+use Rattle.node.specs.Nodes.{Read, node_at}
 use Rattle.node.specs.declared.NodeRead.TheVariants as node
 
 -- what was read: the nodes, the edges that wait, and the last node or reference
@@ -47,11 +44,11 @@ queued Without st this = st.queue
 queued (With e) st this = st.queue ++ (record { first = st.prev; other = this; edge = e } ∷ [])
 
 -- a reference adds no node; "10, a tenth node, read without fault (its first byte)"
-unfoldable pub taken : NodeRead → ℕ → Joint → Seen → Outcome
+unfoldable pub taken : Read → ℕ → Joint → Seen → Outcome
 unfolding queued
-taken (node.Refused r) i x st = Refused r
-taken (node.Referred this next) i x st = On next (record { nodes = st.nodes; queue = queued x st this; prev = this })
-taken (node.Added n next) i x st =
+taken (Err r) i x st = Refused r
+taken (Ok (node.Referred this, next)) i x st = On next (record { nodes = st.nodes; queue = queued x st this; prev = this })
+taken (Ok (node.Added n, next)) i x st =
     let this = Absolute (length st.nodes) in
     pick (leb limit (length st.nodes)) (Refused (TooManyNodes i)) (On next (record { nodes = st.nodes ++ (n ∷ []); queue = queued x st this; prev = this }))
 
@@ -62,11 +59,11 @@ module _ (wish : Bool) where
   unfolding taken
   node_in s at x st = let i = skip (drop at s) at in taken (node_at wish (drop i s) i) i x st
 
-  unfoldable pub after_edge : EdgeRead → List ℕ → ℕ → Seen → Outcome
+  unfoldable pub after_edge : Result (Option (Edge × ℕ)) CdError → List ℕ → ℕ → Seen → Outcome
   unfolding node_in
-  after_edge edge.NoEdge s at st = node_in s at Without st
-  after_edge (edge.Read e next) s at st = node_in s next (With e) st
-  after_edge (edge.Refused r) s at st = Refused r
+  after_edge (Ok None) s at st = node_in s at Without st
+  after_edge (Ok (Some (e, next))) s at st = node_in s next (With e) st
+  after_edge (Err r) s at st = Refused r
 
   -- "an optional edge and a node"
   unfoldable pub turn : List ℕ → ℕ → Seen → Outcome

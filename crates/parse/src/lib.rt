@@ -7,7 +7,6 @@ ghost use Rattle.parse.specs.Reading.{joined, kept, answer};
 
 use cd::{Cd, CdError, Edge, EdgeRef, Ends, LIMIT, Node, NodeRef, PAIRS, Pair, Place};
 use node::NodeRead;
-use scan::EdgeRead;
 
 // Edges wait here. A turn that adds one reads two bytes, so 128 places do for 255.
 #[derive(Clone, Copy)]
@@ -22,17 +21,16 @@ pub fn read_text(s: &[u8], start: usize, wish: bool) -> Result<Cd, CdError>
     requires { (start ≤ length s.now) × (length s.now ≤ 255) }
     ensures { result ≡ answer (kept (joined (text_from wish s.now start))) }
 {
-    let place = Place {
-        node: Node::Unringed,
-    };
     let none = Edge { num: 0, den: 0 };
     let first = NodeRef::Absolute(0);
     let blank = EdgeRef {
-        first: first,
+        first,
         other: first,
         edge: none,
     };
-    let mut nodes = [place; LIMIT];
+    let mut nodes = [Place {
+        node: Node::Unringed,
+    }; LIMIT];
     let mut count = 0;
     let mut queue = Queue {
         at: [blank; 128],
@@ -40,54 +38,43 @@ pub fn read_text(s: &[u8], start: usize, wish: bool) -> Result<Cd, CdError>
     };
     let mut at = start;
     let mut prev = first;
-    // The edge that was read last, if its num is not 0.
-    let mut edge = none;
+    // The edge that was read last, if one was.
+    let mut edge = None;
     loop {
         let i = scan::skip_whitespace(s, at);
-        let mut this = first;
-        let mut next = i;
-        match node::create_node(s, i, wish) {
-            NodeRead::Refused(r) => {
-                return Err(r);
-            }
-            NodeRead::Referred(r, to) => {
-                this = r;
-                next = to;
-            }
-            NodeRead::Added(n, to) => {
+        let (read, next) = node::create_node(s, i, wish)?;
+        let this = match read {
+            NodeRead::Referred(r) => r,
+            NodeRead::Added(n) => {
                 if LIMIT <= count {
                     return Err(CdError::TooManyNodes { pos: i });
                 }
-                this = NodeRef::Absolute(count as u8);
+                let this = NodeRef::Absolute(count as u8);
                 nodes[count] = Place { node: n };
                 count += 1;
-                next = to;
+                this
             }
-        }
-        if 0 < edge.num {
-            let c = queue.count;
-            queue.at[c] = EdgeRef {
+        };
+        if let Some(edge) = edge {
+            queue.at[queue.count] = EdgeRef {
                 first: prev,
                 other: this,
-                edge: edge,
+                edge,
             };
-            queue.count = c + 1;
+            queue.count += 1;
         }
         prev = this;
         if s.len() <= next {
             break;
         }
-        match scan::create_edge(s, next) {
-            EdgeRead::NoEdge => {
-                edge = none;
+        match scan::create_edge(s, next)? {
+            None => {
+                edge = None;
                 at = next;
             }
-            EdgeRead::Read(e, to) => {
-                edge = e;
+            Some((e, to)) => {
+                edge = Some(e);
                 at = to;
-            }
-            EdgeRead::Refused(r) => {
-                return Err(r);
             }
         }
     }
@@ -98,30 +85,21 @@ pub fn read_text(s: &[u8], start: usize, wish: bool) -> Result<Cd, CdError>
     };
     let mut pairs = [apart; PAIRS];
     let mut edges: usize = 0;
-    let waiting = queue.count;
-    let mut k = 0;
-    while k < waiting {
+    for k in 0..queue.count {
         let e = queue.at[k];
         match cd::indices(e, count) {
-            Ends::Missing => {
-                return Err(CdError::MissingNode { edge: k });
-            }
-            Ends::Dropped => {
-                k += 1;
-            }
+            Ends::Dropped => {}
+            Ends::Missing => return Err(CdError::MissingNode { edge: k }),
             Ends::Both(a, b) => {
                 let p = cd::pair_place(a, b);
-                let was = pairs[p];
-                if 0 < was.rank {
-                    return Err(CdError::RepeatEdge { a: a, b: b });
+                if 0 < pairs[p].rank {
+                    return Err(CdError::RepeatEdge { a, b });
                 }
-                let edge = e.edge;
                 edges += 1;
                 pairs[p] = Pair {
                     rank: edges as u32,
-                    edge: edge,
+                    edge: e.edge,
                 };
-                k += 1;
             }
         }
     }
