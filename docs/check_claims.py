@@ -47,7 +47,7 @@ CRATES = TOP / "crates"
 SHARED = TOP.parent / "shared" / "docs"
 DOCUMENT_01 = "01-scope.md"
 DOCUMENT_02 = "02-change-requests.md"
-KIT = ("std", "core", "io", "Prim", "lib", "mathlib", "native", "borrow", "mir")
+KIT = ("std", "core", "io", "arrayvec", "Prim", "lib", "mathlib", "native", "borrow", "mir")
 SOURCES = ("crates", "bindings", "cli", "include", "oracle", "bench")
 
 # A definition of a spec file or a type of a source file, the path below crates/; a heading, paragraph, item of a list or cell of a table.

@@ -11,7 +11,7 @@ use cd::{Cd, LIMIT, Node, Place};
 
 // Puts the label `to` in the place of `from`.
 #[tactic(auto, unfolding(crate::specs::Labels::instead))]
-pub fn relabel(of: &mut [usize; LIMIT], from: usize, to: usize)
+fn relabel(of: &mut [usize; LIMIT], from: usize, to: usize)
     ensures { (k : ℕ) → k < limit → label_in of.new k ≡ instead from to (label_in of.old k) }
 {
     for label in of.iter_mut() {
@@ -22,7 +22,7 @@ pub fn relabel(of: &mut [usize; LIMIT], from: usize, to: usize)
 }
 
 // Meets the pair i, j: if an edge joins it, the two components become one, and have the lesser label.
-pub fn meet(cd: &Cd, of: &mut [usize; LIMIT], i: usize, j: usize)
+fn meet(cd: &Cd, of: &mut [usize; LIMIT], i: usize, j: usize)
     requires { (i < j) × (j < cd.now.count) × (cd.now.count ≤ limit) × Met cd.now j i of.old }
     ensures { Met cd.now j (i + 1) of.new }
 {
@@ -37,7 +37,7 @@ pub fn meet(cd: &Cd, of: &mut [usize; LIMIT], i: usize, j: usize)
 }
 
 // Meets the pairs of row j.
-pub fn meet_row(cd: &Cd, of: &mut [usize; LIMIT], j: usize)
+fn meet_row(cd: &Cd, of: &mut [usize; LIMIT], j: usize)
     requires { (j < cd.now.count) × (cd.now.count ≤ limit) × Met cd.now j 0 of.old }
     ensures { Met cd.now (j + 1) 0 of.new }
 {

@@ -96,7 +96,7 @@ pub fn last_two(before: Option<u32>, last: u32, i: usize) -> Result<(Edge, usize
 
 // The number of a part that closes at `i`, if it has a digit and is a 32-bit number.
 #[tactic(auto, unfolding(crate::specs::Edges::closes))]
-pub fn closed(part: Option<u64>, i: usize) -> Result<u32, CdError>
+fn closed(part: Option<u64>, i: usize) -> Result<u32, CdError>
     requires { 0 < i }
     ensures { let p = open_part part in result ≡ pick (closes p) (Ok p.value) (Err (CdError.ParseError (i - 1))) }
 {
