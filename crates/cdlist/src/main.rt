@@ -42,7 +42,7 @@ fn main(rt: HostRuntime) {
     let Some(wish) = lines::read_argument(&rt) else {
         return;
     };
-    let mut text = io::large_buffer();
+    let mut text = [0; 65536];
     let n = lines::read_input(&rt, &mut text);
     let mut out = Answers::new();
     let mut from = 0;

@@ -6,6 +6,10 @@ use Rattle.arrayvec.specs.ArrayVec.{ArrayVec, Extends, array_vec_len}
 abbrev pub HasRoom : ℕ → ArrayVec ℕ → Type 0
 HasRoom n out = array_vec_len out + n ≤ 16384
 
+-- half of that room is left, or more
+abbrev pub HasHalf : ArrayVec ℕ → Type 0
+HasHalf out = array_vec_len out ≤ 8192
+
 -- n more bytes wait, or fewer
 abbrev pub AddsAtMost : ℕ → ArrayVec ℕ → ArrayVec ℕ → Type 0
 AddsAtMost n before after = array_vec_len after ≤ array_vec_len before + n

@@ -1,7 +1,7 @@
 // What the programs share: input and output that fail aloud, a text a line, and answers gathered in a buffer.
 #![tactic(auto)]
 
-ghost use Rattle.std.specs.Prelude.{◌+◌, ◌-◌, ◌≤◌, ◌<◌, [], ◌∷◌, ◌++◌, ◌≡◌, ◌==◌, leb, length, List, Bool, MatchResult};
+ghost use Rattle.std.specs.Prelude.{◌+◌, ◌-◌, ◌*◌, ◌≤◌, [], ◌∷◌, ◌++◌, ◌≡◌, ◌==◌, leb, length, List, Bool, MatchResult};
 ghost use Rattle.arrayvec.specs.ArrayVec.{Extends, array_vec_len};
 ghost use Rattle.io.specs.Counts.{IsPrefixLen};
 ghost use Rattle.float.specs.Pick.{pick};
@@ -12,7 +12,7 @@ ghost use Rattle.parse.specs.Reading.{Accepted, Refused};
 ghost use Rattle.scan.specs.Ascii.{ascii};
 ghost use Rattle.std.specs.List.{position_or_len};
 ghost use Rattle.lexicon.specs.Answers.{numeral, spaced, answer_of};
-ghost use Rattle.lines.specs.Written.{HasRoom, AddsAtMost};
+ghost use Rattle.lines.specs.Written.{HasRoom, HasHalf, AddsAtMost};
 ghost use Rattle.lines.specs.Arguments.{argument_of};
 
 use arrayvec::ArrayVec;
@@ -116,17 +116,10 @@ pub fn split(s: &[u8], b: u8) -> (&[u8], &[u8])
     (&s[..end], s.get(end + 1..).unwrap_or(&[]))
 }
 
-// For lines that take more than the 65,536 bytes of `io::large_buffer`.
-pub fn large_input() -> [u8; 131072]
-    ensures { 131072 ≡ length result }
-{
-    [0; 131072]
-}
-
 // Writes the answers that wait once they take more than half their room, so that any further answer has room.
 pub fn flush_half(rt: &(impl Print + Eprint), out: &mut Answers)
     ensures kept { out.new.items ≡ pick (leb (array_vec_len out.old) 8192) out.old.items [] }
-    ensures half { array_vec_len out.new ≤ 8192 }
+    ensures half { HasHalf out.new }
 {
     if out.len() <= 8192 {
         return;
@@ -141,7 +134,7 @@ pub fn answer_lines<F: FnMut(&[u8], &mut Answers)>(
     input: &mut [u8],
     mut line: F,
 )
-    requires { (state : F) (text : _) (out : _) → array_vec_len out.now ≤ 8192 → F.pre state text out }
+    requires { (state : F) (text : _) (out : _) → HasHalf out.now → F.pre state text out }
 {
     let n = read_input(rt, input);
     let mut out = Answers::new();
@@ -187,9 +180,9 @@ pub fn put_number(out: &mut Answers, mark: u8, n: u64)
 
 // Each number after a space.
 pub fn put_numbers(out: &mut Answers, numbers: &[usize])
-    requires { (length numbers.now ≤ 4) × HasRoom 84 out.old }
+    requires { HasRoom (21 * length numbers.now) out.old }
     ensures added { Extends out.old (spaced numbers.now) out.new }
-    ensures bound { AddsAtMost 84 out.old out.new }
+    ensures bound { AddsAtMost (21 * length numbers.now) out.old out.new }
 {
     for n in numbers {
         put_number(out, b' ', *n as u64);

@@ -3,8 +3,7 @@
 #![tactic(auto)]
 
 ghost use Rattle.std.specs.Prelude.{◌<◌, ◌≤◌, length};
-ghost use Rattle.arrayvec.specs.ArrayVec.{array_vec_len};
-ghost use Rattle.lines.specs.Written.{HasRoom, AddsAtMost};
+ghost use Rattle.lines.specs.Written.{HasRoom, HasHalf, AddsAtMost};
 
 use cd::{CdError, LIMIT, SQUARE};
 use generator::Generator;
@@ -59,8 +58,8 @@ fn put_generated(out: &mut Answers, r: Result<Generator, CdError>)
 
 // The reflections, mirror by mirror. Nine matrices take more than half the room, so that each is followed by a chance to write them out.
 fn put_reflected(rt: &(impl Print + Eprint), out: &mut Answers, r: Result<Reflections, CdError>)
-    requires { array_vec_len out.old ≤ 8192 }
-    ensures { array_vec_len out.new ≤ 8192 }
+    requires { HasHalf out.old }
+    ensures { HasHalf out.new }
 {
     lines::put_outcome(out, r.map(|all| [all.count]));
     lines::flush_half(rt, out);
@@ -94,7 +93,7 @@ fn named(s: &[u8]) -> (u8, usize) {
 
 // A line without a kind, or of none of these, has an empty answer.
 fn line(rt: &(impl Print + Eprint), s: &[u8], out: &mut Answers)
-    requires { array_vec_len out.old ≤ 8192 }
+    requires { HasHalf out.old }
 {
     if let [kind, _, text @ ..] = s {
         let (letter, size) = named(text);
@@ -115,6 +114,6 @@ fn line(rt: &(impl Print + Eprint), s: &[u8], out: &mut Answers)
 }
 
 fn main(rt: HostRuntime) {
-    let mut text = io::large_buffer();
+    let mut text = [0; 65536];
     lines::answer_lines(&rt, &mut text, |s, out| line(&rt, s, out));
 }

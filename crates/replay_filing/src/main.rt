@@ -57,8 +57,8 @@ fn put_numbering(out: &mut Answers, r: &Result<Filed, CdError>)
 
 // TEXT
 fn filed(text: &[u8], out: &mut Answers)
-    requires { HasRoom 189 out.old }
-    ensures { AddsAtMost 189 out.old out.new }
+    requires { HasRoom 147 out.old }
+    ensures { AddsAtMost 147 out.old out.new }
 {
     let mut bytes = [UNWRITTEN; ROOM];
     let r = lexicon::write_record(text, true, &mut bytes);
@@ -133,7 +133,7 @@ fn written(text: &[u8], digits: &[u8], out: &mut Answers)
 }
 
 fn line(s: &[u8], out: &mut Answers)
-    requires { HasRoom 190 out.old }
+    requires { HasRoom 148 out.old }
 {
     let (text, rest) = lines::split(s, b'|');
     match rest {
@@ -147,6 +147,6 @@ fn line(s: &[u8], out: &mut Answers)
 }
 
 fn main(rt: HostRuntime) {
-    let mut text = lines::large_input();
+    let mut text = [0; 131072];
     lines::answer_lines(&rt, &mut text, line);
 }

@@ -6,8 +6,7 @@ ghost use Rattle.lines.specs.Written.{HasRoom, AddsAtMost};
 
 use cd::{Cd, Edge, LIMIT, Node, PAIRS};
 use lexicon::Reading;
-use lines::Answers;
-use lines::spelled;
+use lines::{Answers, spelled};
 
 fn put_node(out: &mut Answers, n: Node)
     requires { HasRoom 18 out.old }
@@ -84,6 +83,6 @@ fn line(text: &[u8], out: &mut Answers)
 }
 
 fn main(rt: HostRuntime) {
-    let mut text = io::large_buffer();
+    let mut text = [0; 65536];
     lines::answer_lines(&rt, &mut text, line);
 }

@@ -41,14 +41,13 @@ fn spell_places(s: &[u8], bytes: &mut [u8]) -> usize
     at
 }
 
-// SPELLED or SPELLED#LLL, in a buffer of zeros. Answers how many bytes are meant.
-fn spell(s: &[u8], bytes: &mut [u8]) -> usize
+// SPELLED or SPELLED#LLL, in a buffer of zeros: the bytes that are meant.
+fn spell<'a>(s: &[u8], bytes: &'a mut [u8]) -> &'a [u8]
     requires { 4096 ≡ length bytes.old }
-    ensures { result ≤ 4096 }
 {
     let (places, digits) = lines::split(s, b'#');
     let n = spell_places(places, bytes);
-    spelled::number_or(digits, n)
+    &bytes[..spelled::number_or(digits, n)]
 }
 
 // ---- answers
@@ -86,15 +85,10 @@ fn answer(s: &[u8], out: &mut Answers)
     let (places, rest) = lines::split(s, b'|');
     let (place, digits) = lines::split(rest, b'|');
     let mut file = [0; ROOM];
-    let n = spell(places, &mut file);
     let mut bytes = [0; ROOM];
-    let k = spell(place, &mut bytes);
-    called(
-        &file[0..n],
-        &bytes[0..k],
-        spelled::number_or(digits, 0),
-        out,
-    );
+    let file = spell(places, &mut file);
+    let bytes = spell(place, &mut bytes);
+    called(file, bytes, spelled::number_or(digits, 0), out);
 }
 
 // FILE>LLL>LLL: the places kept, and the length of the tail. The digests are of the whole buffers, of which the call is lent as many bytes.
@@ -105,11 +99,11 @@ fn rescue(s: &[u8], out: &mut Answers)
     let (places, rest) = lines::split(s, b'>');
     let (_, last) = lines::split(rest, b'>');
     let mut file = [0; ROOM];
-    let n = spell(places, &mut file);
+    let file = spell(places, &mut file);
     let mut buffer = [UNWRITTEN; ROOM];
     let mut marks = [UNWRITTEN; ROOM];
     let r = shelf_rescue::rescue(
-        &file[0..n],
+        file,
         &mut buffer[0..spelled::number_or(rest, 0)],
         &mut marks[0..spelled::number_or(last, 0)],
     );
@@ -131,6 +125,6 @@ fn line(s: &[u8], out: &mut Answers)
 }
 
 fn main(rt: HostRuntime) {
-    let mut text = lines::large_input();
+    let mut text = [0; 131072];
     lines::answer_lines(&rt, &mut text, line);
 }

@@ -15,6 +15,6 @@ fn line(text: &[u8], out: &mut Answers)
 }
 
 fn main(rt: HostRuntime) {
-    let mut text = io::large_buffer();
+    let mut text = [0; 65536];
     lines::answer_lines(&rt, &mut text, line);
 }

@@ -1,10 +1,10 @@
 -- `lines::answer_lines` is safe and ends: no contract says what a program reads or writes. The invariant: a line's answer has room.
-use Rattle.std.proofs.Common.{◌≤◌, length}
-use Rattle.arrayvec.specs.ArrayVec.{array_vec_len}
+use Rattle.std.proofs.Common.{length}
+use Rattle.lines.specs.Written.{HasHalf}
 use Rattle.lines.proofs.answer_lines.Given as goal
 
 abbrev pub invariant-loop-rest : goal.invariant-loop-rest
-invariant-loop-rest g l = array_vec_len l.out ≤ 8192
+invariant-loop-rest g l = HasHalf l.out
 
 abbrev pub decreases-loop-rest : goal.decreases-loop-rest
 decreases-loop-rest g l = length l.rest
