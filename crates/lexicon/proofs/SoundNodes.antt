@@ -1,6 +1,7 @@
 -- A node that was read holds a double and no nan, without the wish no infinity. A letter's is one of the table's, and antt computes the test of each. A
 -- literal's value is an infinity, or is rounded once, since its digits are a double exactly, and is finite. Assumes nothing.
 use Rattle.std.specs.Prelude.{Option, Some, None, Ok, Err}
+use Rattle.std.specs.Option.{IfSome}
 use Prim.Native.Nat.{ℕ, suc, ◌+◌, ◌-◌, ◌^◌, ◌≤◌, ◌<◌}
 use Prim.Native.Char.{code}
 use mathlib.Core.Bool.{Bool, true, false, not, ◌||◌, true≢false}
@@ -80,18 +81,14 @@ letters_sound =
     cons (ring tt tt) (cons (ring tt tt) (cons (ring tt tt) (cons (ring tt tt) (cons (ring tt tt) nil))))))))))))))))))
 
 -- if a letter stands for a node, that is sound
-data SoundLetter (wish : Bool) : Option Node → Type 0 where
-  stands : {n : Node} → Sound wish n → SoundLetter wish (Some n)
-  unknown : SoundLetter wish None
-
-find_sound : {wish : Bool} (es : List Entry) (b : ℕ) → All (λ (e : Entry). Sound wish e.node) es → SoundLetter wish (find es b)
+find_sound : (wish : Bool) (es : List Entry) (b : ℕ) → All (λ (e : Entry). Sound wish e.node) es → IfSome (find es b) (Sound wish)
 unfolding find
-find_sound [] b nil = unknown
-find_sound {wish} (e ∷ es) b (cons h hs) = picked (SoundLetter wish) (eqb b (code e.letter)) (stands h) (find_sound es b hs)
+find_sound wish [] b nil = tt
+find_sound wish (e ∷ es) b (cons h hs) = picked (λ o. IfSome o (Sound wish)) (eqb b (code e.letter)) h (find_sound wish es b hs)
 
-letter_sound : {wish : Bool} (b : ℕ) → SoundLetter wish (letter_of b)
+letter_sound : (wish : Bool) (b : ℕ) → IfSome (letter_of b) (Sound wish)
 unfolding letter_of
-letter_sound b = find_sound letters b letters_sound
+letter_sound wish b = find_sound wish letters b letters_sound
 
 -- ---- a length
 
@@ -130,7 +127,7 @@ module _ (wish : Bool) where
   decimal_of_sound : (w : ℕ) (p : ℤ) (minus : Bool) → w ≤ 2 ^ 53 → SoundLength wish (length_of (decimal_of w p minus))
   unfolding decimal_of length_of
   decimal_of_sound w p minus h =
-      tested (λ (v : Option Float). SoundLength wish (length_of v)) (in_range p)
+      tested (λ (l : Option Float). SoundLength wish (length_of l)) (in_range p)
       (λ r. value (signed_length minus (Decimal.value w p) (value_fits w p) (value_finite w p h r)))
       range
 
@@ -172,10 +169,10 @@ module _ (wish : Bool) where
   length_node_sound last next not_a_number = refused
   length_node_sound last next range = refused
 
-  letter_node_sound : {l : Option Node} (at : ℕ) → SoundLetter wish l → SoundRead wish (letter_node l at)
+  letter_node_sound : (l : Option Node) (at : ℕ) → IfSome l (Sound wish) → SoundRead wish (letter_node l at)
   unfolding letter_node
-  letter_node_sound at (stands h) = added h
-  letter_node_sound at unknown = refused
+  letter_node_sound (Some n) at h = added h
+  letter_node_sound None at h = refused
 
   letter_at_sound : (bs : List ℕ) (at : ℕ) (negative : Bool) → SoundRead wish (letter_at bs at negative)
   unfolding letter_at
@@ -197,4 +194,4 @@ module _ (wish : Bool) where
   unfolding node_at
   node_sound [] at = refused
   node_sound (b ∷ bs) at =
-      picked (SoundRead wish) (is "(" b) (length_sound bs (at + 1)) (picked (SoundRead wish) (is "*" b) (reference_sound bs (at + 1)) (letter_node_sound at (letter_sound b)))
+      picked (SoundRead wish) (is "(" b) (length_sound bs (at + 1)) (picked (SoundRead wish) (is "*" b) (reference_sound bs (at + 1)) (letter_node_sound (letter_of b) at (letter_sound wish b)))
