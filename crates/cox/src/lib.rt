@@ -61,6 +61,7 @@ fn pair_values(pairs: [Pair; PAIRS]) -> [f64; PAIRS]
 }
 
 // An entry of the matrix, by those values.
+#[tactic(auto, using(std::proofs::lemmas::Bool::Decides::nat_tests, crate::proofs::Sums::one_literal), unfolding(crate::specs::Shown::entries))]
 fn entry(values: &[f64; PAIRS], i: usize, j: usize) -> f64
     requires { (i < limit) × (j < limit) }
     ensures { result ≡ entries values.now i j }
