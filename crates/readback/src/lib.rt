@@ -49,7 +49,7 @@ fn edge_at(s: &[u8], k: usize) -> Edge
     }
 }
 
-// Whether 64 bits are a double's that is not nan.
+// Whether 64 bits are a double's that is not nan. (`f64::from_bits` asks for what is tested here.)
 fn is_number(bits: u64) -> bool
     ensures { result ≡ not (nan_bits binary64 bits) }
 {
