@@ -30,6 +30,7 @@ fn block(s: &[u8], from: usize, wish: bool, out: &mut Answers) -> usize
 {
     out.clear();
     let mut i = from;
+    // By places of the input, of which `IsBlock` speaks.
     while i < s.len() && LONGEST <= out.remaining_capacity() {
         let end = i + lines::until(&s[i..], b'\n');
         line(&s[i..end], wish, out);

@@ -32,6 +32,7 @@ fn say(rt: &impl Eprint, line: &str) {
 }
 
 // Whether a program's arguments wish for infinite lengths, where they are known.
+#[tactic(auto, using(std::proofs::lemmas::Bool::Decides::nat_tests), unfolding(crate::specs::Arguments::argument_of, scan::specs::Ascii::ascii))]
 fn argument_of(count: usize, word: &[u8]) -> Option<bool>
     ensures { result ≡ argument_of count word.now }
 {
@@ -75,6 +76,7 @@ pub fn read_input(rt: &(impl Input + Eprint), buf: &mut [u8]) -> usize
 {
     let mut reader = rt.reader();
     let mut done = 0;
+    // No `read_to_end`: it fills a `Vec`, and no heap is used.
     while done < buf.len() {
         match reader.read(&mut buf[done..]) {
             Ok(0) => return done,
@@ -158,6 +160,7 @@ pub fn put_all(out: &mut Answers, s: &[u8])
 }
 
 // A number in decimal.
+#[tactic(auto, using(crate::proofs::Decimals::numeral_digits))]
 pub fn put_decimal(out: &mut Answers, n: u64)
     requires { HasRoom 20 out.old }
     ensures added { Extends out.old (numeral n) out.new }
@@ -179,6 +182,7 @@ pub fn put_number(out: &mut Answers, mark: u8, n: u64)
 }
 
 // Each number after a space.
+#[tactic(auto, using(crate::proofs::Writing::adds_figure), unfolding(lexicon::specs::Answers::spaced))]
 pub fn put_numbers(out: &mut Answers, numbers: &[usize])
     requires { HasRoom (21 * length numbers.now) out.old }
     ensures added { Extends out.old (spaced numbers.now) out.new }
@@ -190,6 +194,7 @@ pub fn put_numbers(out: &mut Answers, numbers: &[usize])
 }
 
 // `ok` and numbers.
+#[tactic(auto, using(crate::proofs::Writing::adds_then), unfolding(scan::specs::Ascii::ascii))]
 fn put_ok(out: &mut Answers, numbers: &[usize])
     requires { (length numbers.now ≤ 4) × HasRoom 86 out.old }
     ensures added { Extends out.old (ascii "ok" ++ spaced numbers.now) out.new }
@@ -200,6 +205,7 @@ fn put_ok(out: &mut Answers, numbers: &[usize])
 }
 
 // `no`, the refusal's number and its fields.
+#[tactic(auto, using(crate::proofs::Writing::adds_then), unfolding(scan::specs::Ascii::ascii))]
 fn put_no(out: &mut Answers, e: CdError)
     requires { HasRoom 86 out.old }
     ensures added { Extends out.old (ascii "no" ++ spaced (number_of e)) out.new }
@@ -222,6 +228,7 @@ pub fn put_outcome<const N: usize>(out: &mut Answers, r: Result<[usize; N], CdEr
 }
 
 // `ok`, nodes, stored edges, minimal 1 or 0; or `no`, number, fields.
+#[tactic(auto, unfolding(lexicon::specs::Answers::answer_of, cd::specs::Diagrams::cd_of))]
 pub fn put_answer(out: &mut Answers, r: Result<Reading, CdError>)
     requires { HasRoom 86 out.old }
     ensures added { MatchResult r (λ r. (ns : List Node) (es : List Stored) → r.cd ≡ cd_of ns es → Extends out.old (answer_of (Accepted ns es) r.minimal) out.new) (λ e. (m : Bool) → Extends out.old (answer_of (Refused e) m) out.new) }

@@ -1,4 +1,4 @@
-// What the replay programs of records share: bytes spelled in a line by hexadecimal digits, and answers that show bytes by a digest.
+// What the replay programs share: numbers and bytes that a line spells, and answers that show bytes by a digest and doubles by their bits.
 ghost use Rattle.std.specs.Prelude.{◌*◌, ◌≤◌, ◌<◌, ◌^◌, length, max};
 ghost use Rattle.lines.specs.Written.{HasRoom, AddsAtMost};
 

@@ -32,6 +32,7 @@ fn spell_places(s: &[u8], bytes: &mut [u8]) -> usize
 {
     let mut at = 0;
     let mut rest = s;
+    // No `chunks_mut`: damage may be spelled that lies past its place.
     while !rest.is_empty() && RECORD <= bytes.len() - at {
         let (place, next) = lines::split(rest, b',');
         spell_place(place, &mut bytes[at..]);
