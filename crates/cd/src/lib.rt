@@ -221,10 +221,14 @@ pub fn reduced(e: Edge) -> Edge
 pub fn index(r: NodeRef, len: usize) -> Option<usize>
     ensures { result ≡ index_of r len }
 {
+    let (NodeRef::Absolute(k) | NodeRef::Negative(k)) = r;
+    let k = usize::from(k);
+    if len <= k {
+        return None;
+    }
     match r {
-        NodeRef::Absolute(k) if usize::from(k) < len => Some(usize::from(k)),
-        NodeRef::Negative(k) if usize::from(k) < len => Some(len - 1 - usize::from(k)),
-        _ => None,
+        NodeRef::Absolute(_) => Some(k),
+        NodeRef::Negative(_) => Some(len - 1 - k),
     }
 }
 
@@ -245,10 +249,13 @@ pub fn indices(e: EdgeRef, len: usize) -> Ends
     if eq_two(e.edge) {
         return Ends::Dropped;
     }
-    match (index(e.first, len), index(e.other, len)) {
-        (Some(a), Some(b)) => Ends::Both(a, b),
-        _ => Ends::Missing,
-    }
+    let Some(a) = index(e.first, len) else {
+        return Ends::Missing;
+    };
+    let Some(b) = index(e.other, len) else {
+        return Ends::Missing;
+    };
+    Ends::Both(a, b)
 }
 
 // The place of a pair, loops included.

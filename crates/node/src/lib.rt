@@ -97,10 +97,8 @@ pub fn read_letter(s: &[u8], at: usize, negative: bool) -> Result<(NodeRead, usi
 pub fn read_reference(s: &[u8], at: usize) -> Result<(NodeRead, usize), CdError>
     ensures { result ≡ reference_at (drop at s.now) at }
 {
-    match s.get(at) {
-        Some(b'-') => read_letter(s, at + 1, true),
-        _ => read_letter(s, at, false),
-    }
+    let negative = s.get(at) == Some(&b'-');
+    read_letter(s, at + usize::from(negative), negative)
 }
 
 // The node of a letter, at `at`.

@@ -17,15 +17,18 @@ pub fn is_space(b: u8) -> bool
     matches!(b, 9..=13 | 32)
 }
 
-// The place of the first byte from `at` on that is no space, or the length.
+// The place of the first byte from `at` on that is no space, or the length. (By `position` a chain of nine nodes took a tenth longer to read.)
+#[tactic(auto, using(crate::proofs::Spaces::skip_laws))]
 pub fn skip_whitespace(s: &[u8], at: usize) -> usize
     requires { at ≤ length s.now }
     ensures { (result ≡ skip (drop at s.now) at) × (result ≤ length s.now) × (at ≤ result) }
 {
-    match s[at..].iter().position(|b| !is_space(*b)) {
-        Some(n) => at + n,
-        None => s.len(),
+    for i in at..s.len() {
+        if !is_space(s[i]) {
+            return i;
+        }
     }
+    s.len()
 }
 
 #[tactic(auto, unfolding(crate::specs::Bytes::is_digit, crate::specs::Bytes::within))]
