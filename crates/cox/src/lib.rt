@@ -1,7 +1,7 @@
 // cox/mod.rs of miratope-core, with cox of its cd.rs: the matrix of a diagram, and the families. A square of doubles is one array, row r of column c at LIMIT × c + r.
 #![tactic(auto)]
 
-ghost use Rattle.std.specs.Prelude.{List, ◌≡◌, ℕ, ◌<◌, ◌≤◌, Float};
+ghost use Rattle.std.specs.Prelude.{List, map, ◌≡◌, ℕ, ◌<◌, ◌≤◌, Float};
 ghost use Rattle.cd.specs.Diagrams.{Stored, limit, cd_of};
 ghost use Rattle.cd.specs.declared.Node.{Node};
 ghost use Rattle.cox.specs.Shown.{pair_value, entries, cox_of};
@@ -49,7 +49,19 @@ fn pair_value(p: Pair) -> f64
     }
 }
 
+// Of all pairs. (With `pairs.map(pair_value)` the matrix took three times as long.)
+fn pair_values(pairs: [Pair; PAIRS]) -> [f64; PAIRS]
+    ensures { result ≡ map pair_value pairs }
+{
+    let mut values = [2.0; PAIRS];
+    for (k, pair) in pairs.iter().enumerate() {
+        values[k] = pair_value(*pair);
+    }
+    values
+}
+
 // An entry of the matrix, by those values.
+#[tactic(auto, using(std::proofs::lemmas::Bool::Decides::nat_tests, crate::proofs::Sums::one_literal), unfolding(crate::specs::Shown::entries))]
 fn entry(values: &[f64; PAIRS], i: usize, j: usize) -> f64
     requires { (i < limit) × (j < limit) }
     ensures { result ≡ entries values.now i j }
@@ -65,7 +77,7 @@ fn entry(values: &[f64; PAIRS], i: usize, j: usize) -> f64
 pub fn matrix(cd: Cd) -> Cox
     ensures { (ns : List Node) (es : List Stored) → cd ≡ cd_of ns es → result ≡ cox_of ns es }
 {
-    let values = cd.pairs.map(pair_value);
+    let values = pair_values(cd.pairs);
     Cox {
         at: square(|c, r| entry(&values, c, r)),
         count: cd.count,

@@ -97,7 +97,7 @@ fn place(m: &[f64; SQUARE], values: [f64; LIMIT], n: usize) -> [f64; LIMIT]
     b
 }
 
-// The coordinates over the Rust's mirrors, or over walls.
+// The coordinates over the Rust's mirrors, or over walls. (One choice of two calls: a closure in the flag's place is no plainer.)
 #[tactic(auto, unfolding(crate::specs::TrueDistances::coordinates))]
 fn coordinates(walls: bool, m: &[f64; SQUARE], values: [f64; LIMIT], n: usize) -> [f64; LIMIT]
     requires { n ≤ limit }

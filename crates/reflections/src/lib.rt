@@ -35,10 +35,9 @@ fn reflection(units: &[f64; SQUARE], m: &[f64; SQUARE], i: usize, n: usize) -> [
 {
     let mirror = cox::column(m, i, n);
     let square = cox::dot(mirror, mirror);
-    let factors: [f64; LIMIT] = std::array::from_fn(|c| 2.0
-        * cox::dot(cox::column(units, c, n), mirror)
-        / square);
-    cox::square(|c, r| units[LIMIT * c + r] - m[LIMIT * i + r] * factors[c])
+    let factor = |c| 2.0 * cox::dot(cox::column(units, c, n), mirror) / square;
+    let factors: [f64; LIMIT] = std::array::from_fn(factor);
+    cox::square(|c, r| unit(c, r) - m[LIMIT * i + r] * factors[c])
 }
 
 pub fn of(m: &[f64; SQUARE], n: usize) -> Reflections

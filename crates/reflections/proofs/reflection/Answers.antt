@@ -18,13 +18,12 @@ returns c f e w =
     let n = c.args.n in
     let factors = c.from_fn-factors.result in
     c.square.ensures (reflection (f i) n) (λ j r x h l p.
-    let told : x ≡ get_or c.args.units.now (limit * j + r) nan -ᶠ get_or c.args.m.now (limit * i + r) nan *ᶠ get_or factors j nan = search rules in
+    let told : x ≡ unit j r -ᶠ get_or c.args.m.now (limit * i + r) nan *ᶠ get_or factors j nan = search rules in
     let called = c.from_fn-factors.ensures.items.at j nan h in
     let factor : get_or factors j nan ≡ of_bits binary64 0x4000_0000_0000_0000 *ᶠ dot (unit j) (f i) n /ᶠ c.dot-square.result = search rules in
     let mirror = c.column-mirror.ensures f w in
     rw (
       told,
-      entry_read limit unit _ nan e j r h l,
       entry_read limit f _ nan w i r c.requires.0 l,
       factor,
       two_literal,
