@@ -11,18 +11,11 @@ use cd::{Cd, CdError};
 pub fn not_ascii(s: &[u8]) -> usize
     ensures { result ≡ high s.now 0 }
 {
-    let mut i = 0;
-    while i < s.len() {
-        if 128 <= s[i] {
-            return i;
-        } else {
-            i += 1;
-        }
-    }
-    i
+    s.iter().position(|b| 128 <= *b).unwrap_or(s.len())
 }
 
 // The diagram of the text from `at` on, or what refuses it.
+#[tactic(auto, using(crate::proofs::ReadLaws::read_laws))]
 pub fn parse_from(s: &[u8], at: usize, wish: bool) -> Result<Cd, CdError>
     ensures { result ≡ answer (read_from wish s.now at) }
 {
@@ -46,26 +39,29 @@ pub struct CdBuilder<'a> {
     pub wish: bool,
 }
 
-pub fn new<'a>(diagram: &'a [u8], wish: bool) -> CdBuilder<'a>
-    ensures { (result.diagram ≡ diagram.entry) × (result.at ≡ 0) × (result.wish ≡ wish) }
-{
-    CdBuilder {
-        diagram,
-        at: 0,
-        wish,
+impl<'a> CdBuilder<'a> {
+    pub fn new(diagram: &'a [u8], wish: bool) -> CdBuilder<'a>
+        ensures { (result.diagram ≡ diagram.entry) × (result.at ≡ 0) × (result.wish ≡ wish) }
+    {
+        CdBuilder {
+            diagram,
+            at: 0,
+            wish,
+        }
+    }
+
+    // The diagram of what is left, or what refuses it.
+    pub fn build(self) -> Result<Cd, CdError>
+        ensures { result ≡ answer (read_from self.entry.wish self.entry.diagram.now self.entry.at) }
+    {
+        parse_from(self.diagram, self.at, self.wish)
     }
 }
 
-// The diagram of what is left, or what refuses it.
-pub fn build<'a>(b: CdBuilder<'a>) -> Result<Cd, CdError>
-    ensures { result ≡ answer (read_from b.entry.wish b.entry.diagram.now b.entry.at) }
-{
-    parse_from(b.diagram, b.at, b.wish)
-}
-
 // The diagram of a text, or what refuses it: `Cd::parse`.
+#[tactic(auto, unfolding(parse::specs::Reading::read))]
 pub fn parse(text: &[u8], wish: bool) -> Result<Cd, CdError>
     ensures { result ≡ answer (read wish text.now) }
 {
-    build(new(text, wish))
+    CdBuilder::new(text, wish).build()
 }

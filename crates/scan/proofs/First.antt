@@ -10,6 +10,7 @@ use lib.ListN.{length, take, drop, length-drop}
 use lib.Seq.{take_all}
 use Rattle.std.specs.Prelude.{Some, None}
 use Rattle.std.specs.List.{position, position_or_len}
+use Rattle.std.specs.Option.{unwrap_or}
 use Rattle.std.proofs.lemmas.List.Sums.{prefix_len-le-length}
 use Rattle.float.specs.Pick.{pick}
 
@@ -26,6 +27,15 @@ module _ (test : ℕ → Bool) (first : List ℕ → ℕ → ℕ) (ends : (i : �
       at true n = omega arith
       at false n = omega arith
 
+  -- of a whole text
+  pub first_or_length : (s : List ℕ) → unwrap_or (position test s) (length s) ≡ first s 0
+  first_or_length s = go (ltb (position_or_len test s) (length s)) refl
+    where
+      go : (t : Bool) → ltb (position_or_len test s) (length s) ≡ t → unwrap_or (cond t (Some (position_or_len test s)) None) (length s) ≡ first s 0
+      go true k = omega (arith, first_place s 0)
+      go false k = omega (arith, first_place s 0, prefix_len-le-length (λ b. not (test b)) s, ltb-false (position_or_len test s) (length s) k)
+
+  -- from `at` on
   module _ (s : List ℕ) (at : ℕ) (inside : at ≤ length s) where
     abbrev place : ℕ
     place = position_or_len test (drop at s)
