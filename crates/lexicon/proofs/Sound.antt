@@ -1,6 +1,9 @@
 -- What holds of the diagram of every accepted text, the edges as typed: a node's value is a double and no nan, without the wish no infinity, an edge is valid and of 32-bit numbers, and
 -- the edges are tidy. By induction on the turns of reading, then on the queue: a run refuses a part of 2 ^ 32 or more as it closes, so no edge that waits has one, and
 -- joining stores only edges that waited and are no two, at indices below the number of nodes, where no edge is stored yet. Assumes nothing.
+use Rattle.std.specs.Prelude.{Option, Some, None, Result, Ok, Err}
+use Rattle.std.specs.Option.{IfSome}
+use Rattle.std.specs.Result.{IfOk}
 use Prim.Native.Nat.{ℕ, zero, suc, ◌+◌, ◌-◌, ◌^◌, ◌<◌}
 use mathlib.Core.Bool.{Bool, true, false, and-eq-true_iff}
 use mathlib.Core.List.{List, [], ◌∷◌, ◌++◌}
@@ -19,22 +22,16 @@ use Rattle.cd.specs.declared.Edge.{Edge}
 use Rattle.cd.specs.declared.EdgeRef.{EdgeRef}
 use Rattle.cd.specs.declared.Ends.{Ends}
 use Rattle.cd.specs.declared.Ends.TheVariants as ends
-use Rattle.cd.specs.declared.Found.{Found}
-use Rattle.cd.specs.declared.Found.TheVariants as found
 use Rattle.cd.specs.declared.Node.{Node}
 use Rattle.cd.specs.declared.NodeRef.{NodeRef}
 use Rattle.cd.specs.declared.NodeRef.TheVariants.{Absolute, Negative}
 use Rattle.scan.specs.Bytes.{is_digit}
 use Rattle.scan.specs.Spaces.{skip}
-use Rattle.scan.specs.Edges.{sort_of, Part, empty, longer, closes, edge, last_two, by_sort, run, optional, edge_at}
-use Rattle.scan.specs.declared.Before.{Before}
-use Rattle.scan.specs.declared.Before.TheVariants.{Nothing, Number}
+use Rattle.scan.specs.Edges.{Read, if_any, sort_of, Part, empty, longer, closes, edge, last_two, by_sort, run, optional, edge_at}
 use Rattle.scan.specs.declared.Sort.{Sort}
 use Rattle.scan.specs.declared.Sort.TheVariants.{Digit, Slash, Terminator, Other}
-use Rattle.scan.specs.declared.EdgeRead.{EdgeRead}
-use Rattle.scan.specs.declared.EdgeRead.TheVariants as scan
 use Rattle.scan.proofs.Places.{edge_valid}
-use Rattle.node.specs.declared.NodeRead.{NodeRead}
+use Rattle.node.specs.Nodes as node
 use Rattle.parse.specs.Text.{Seen, start, Outcome, On, onto, Joint, Without, With, queued, taken, node_in, after_edge, turn, turns, text_from}
 use Rattle.parse.specs.Text as text
 use Rattle.parse.specs.Joining.{Joined, Edges, join_one, join_all}
@@ -60,48 +57,52 @@ all_append (cons k ks) h = cons k (all_append ks h)
 -- ---- an edge that was read
 
 -- the part before, if there is one, is a 32-bit number
-data Small : Before → Type 0 where
-  nothing : Small Nothing
-  number : {n : ℕ} → n < 2 ^ 32 → Small (Number n)
+abbrev Small : Option ℕ → Type 0
+Small before = IfSome before (λ n. n < 2 ^ 32)
 
 -- if an edge was read, its num is one
-data SmallRead : EdgeRead → Type 0 where
-  none : SmallRead scan.NoEdge
-  some : {e : Edge} {next : ℕ} → e.num < 2 ^ 32 → SmallRead (scan.Read e next)
-  refused : {r : CdError} → SmallRead (scan.Refused r)
+abbrev SmallRead : Read → Type 0
+SmallRead x = IfOk x (λ r. r.0.num < 2 ^ 32)
+
+abbrev SmallIfAny : Result (Option (Edge × ℕ)) CdError → Type 0
+SmallIfAny x = IfOk x (λ o. IfSome o (λ r. r.0.num < 2 ^ 32))
 
 small_closes : (p : Part) → closes p ≡ true → p.value < 2 ^ 32
 unfolding closes
 small_closes p h = ltb-true p.value (2 ^ 32) ((and-eq-true_iff (ltb p.value (2 ^ 32)) p.some).0 h).0
 
-small_sorted : {x y z w : EdgeRead} (t : Sort) → SmallRead x → SmallRead y → SmallRead z → SmallRead w → SmallRead (by_sort t x y z w)
+small_sorted : (x y z w : Read) (t : Sort) → SmallRead x → SmallRead y → SmallRead z → SmallRead w → SmallRead (by_sort t x y z w)
 unfolding by_sort
-small_sorted Digit a b c d = a
-small_sorted Slash a b c d = b
-small_sorted Terminator a b c d = c
-small_sorted Other a b c d = d
+small_sorted x y z w Digit a b c d = a
+small_sorted x y z w Slash a b c d = b
+small_sorted x y z w Terminator a b c d = c
+small_sorted x y z w Other a b c d = d
 
-small_last_two : (before : Before) (last i : ℕ) → Small before → last < 2 ^ 32 → SmallRead (last_two before last i)
+small_last_two : (before : Option ℕ) (last i : ℕ) → Small before → last < 2 ^ 32 → SmallRead (last_two before last i)
 unfolding last_two edge
-small_last_two Nothing last i h l = picked SmallRead (is_edge last 1) (some l) refused
-small_last_two (Number n) last i (number h) l = picked SmallRead (is_edge n last) (some h) refused
+small_last_two None last i h l = picked SmallRead (is_edge last 1) l tt
+small_last_two (Some n) last i h l = picked SmallRead (is_edge n last) h tt
 
-small_run : (bs : List ℕ) (i : ℕ) (before : Before) (p : Part) → Small before → SmallRead (run bs i before p)
+small_run : (bs : List ℕ) (i : ℕ) (before : Option ℕ) (p : Part) → Small before → SmallRead (run bs i before p)
 unfolding run
-small_run [] i before p h = refused
+small_run [] i before p h = tt
 small_run (b ∷ bs) i before p h =
-    small_sorted (sort_of b)
+    small_sorted _ _ _ _ (sort_of b)
     (small_run bs (i + 1) before (longer p b) h)
-    (tested SmallRead (closes p) (λ c. small_run bs (i + 1) (Number p.value) empty (number (small_closes p c))) refused)
-    (tested SmallRead (closes p) (λ c. small_last_two before p.value i h (small_closes p c)) refused)
-    refused
+    (tested SmallRead (closes p) (λ c. small_run bs (i + 1) (Some p.value) empty (small_closes p c)) tt)
+    (tested SmallRead (closes p) (λ c. small_last_two before p.value i h (small_closes p c)) tt)
+    tt
 
-small_optional : (bs : List ℕ) (i : ℕ) → SmallRead (optional bs i)
+small_if_any : (x : Read) → SmallRead x → SmallIfAny (if_any x)
+small_if_any (Ok r) h = h
+small_if_any (Err e) h = tt
+
+small_optional : (bs : List ℕ) (i : ℕ) → SmallIfAny (optional bs i)
 unfolding optional
-small_optional [] i = none
-small_optional (b ∷ bs) i = picked SmallRead (is_digit b) (small_run (b ∷ bs) i Nothing empty nothing) none
+small_optional [] i = tt
+small_optional (b ∷ bs) i = picked SmallIfAny (is_digit b) (small_if_any (run (b ∷ bs) i None empty) (small_run (b ∷ bs) i None empty tt)) tt
 
-small_edge : (s : List ℕ) (at : ℕ) → SmallRead (edge_at s at)
+small_edge : (s : List ℕ) (at : ℕ) → SmallIfAny (edge_at s at)
 unfolding edge_at
 small_edge s at = let i = skip (drop at s) at in small_optional (drop i s) i
 
@@ -137,7 +138,7 @@ unfolding queued
 queue_sound st this without h = h.queue
 queue_sound st this (with f) h = all_append h.queue f
 
-fine_taken : {wish : Bool} {r : NodeRead} {x : Joint} (i : ℕ) (st : Seen) → SoundRead wish r → SoundJoint x → SoundSeen wish st → Fine wish (taken r i x st)
+fine_taken : {wish : Bool} {r : node.Read} {x : Joint} (i : ℕ) (st : Seen) → SoundRead wish r → SoundJoint x → SoundSeen wish st → Fine wish (taken r i x st)
 unfolding taken
 fine_taken i st nodes.refused j h = refused
 fine_taken i st (nodes.referred {r = this}) j h = on (record { nodes = h.nodes; queue = queue_sound st this j h })
@@ -149,11 +150,11 @@ module _ (wish : Bool) (s : List ℕ) where
   unfolding node_in
   fine_node at st j h = let i = skip (drop at s) at in fine_taken i st (node_sound wish (drop i s) i) j h
 
-  fine_after : (x : EdgeRead) (at : ℕ) (st : Seen) → edge_at s at ≡ x → SmallRead x → SoundSeen wish st → Fine wish (after_edge wish x s at st)
+  fine_after : (x : Result (Option (Edge × ℕ)) CdError) (at : ℕ) (st : Seen) → edge_at s at ≡ x → SmallIfAny x → SoundSeen wish st → Fine wish (after_edge wish x s at st)
   unfolding after_edge
-  fine_after scan.NoEdge at st e none h = fine_node at st without h
-  fine_after (scan.Read d next) at st e (some k) h = fine_node next st (with (k, edge_valid s at d next e)) h
-  fine_after (scan.Refused r) at st e refused h = refused
+  fine_after (Ok None) at st e k h = fine_node at st without h
+  fine_after (Ok (Some (d, next))) at st e k h = fine_node next st (with (k, edge_valid s at d next e)) h
+  fine_after (Err r) at st e k h = refused
 
   fine_turns : (n at : ℕ) (st : Seen) → SoundSeen wish st → Fine wish (turns wish n s at st)
   unfolding turns turn
@@ -168,14 +169,13 @@ module _ (wish : Bool) (s : List ℕ) where
 -- ---- the edges stored
 
 -- if a node was found, it is one of n
-data Inside (n : ℕ) : Found → Type 0 where
-  at : {k : ℕ} → k < n → Inside n (found.At k)
-  missing : Inside n found.Missing
+abbrev Inside : ℕ → Option ℕ → Type 0
+Inside n o = IfSome o (λ k. k < n)
 
 index_inside : (r : NodeRef) (n : ℕ) → Inside n (index_of r n)
 unfolding index_of
-index_inside (Absolute k) n = tested (Inside n) (ltb k n) (λ h. at (ltb-true k n h)) missing
-index_inside (Negative k) n = tested (Inside n) (ltb k n) (λ h. let l : n - 1 - k < n = omega (arith, ltb-true k n h) in at l) missing
+index_inside (Absolute k) n = tested (Inside n) (ltb k n) (λ h. ltb-true k n h) tt
+index_inside (Negative k) n = tested (Inside n) (ltb k n) (λ h. let l : n - 1 - k < n = omega (arith, ltb-true k n h) in l) tt
 
 -- if both were found, the edge is no two and they are of n
 data BothInside (e : Edge) (n : ℕ) : Ends → Type 0 where
@@ -183,11 +183,11 @@ data BothInside (e : Edge) (n : ℕ) : Ends → Type 0 where
   missing : BothInside e n ends.Missing
   both : {a b : ℕ} → is_two e ≡ false → a < n → b < n → BothInside e n (ends.Both a b)
 
-both_inside : {e : Edge} {n : ℕ} {a b : Found} → is_two e ≡ false → Inside n a → Inside n b → BothInside e n (both_of a b)
+both_inside : {e : Edge} {n : ℕ} (a b : Option ℕ) → is_two e ≡ false → Inside n a → Inside n b → BothInside e n (both_of a b)
 unfolding both_of
-both_inside t missing b = missing
-both_inside t (at h) missing = missing
-both_inside t (at h) (at k) = both t h k
+both_inside None b t h k = missing
+both_inside (Some a) None t h k = missing
+both_inside (Some a) (Some b) t h k = both t h k
 
 ends_inside : (e : EdgeRef) (n : ℕ) → BothInside e.edge n (ends_of e n)
 unfolding ends_of
@@ -195,7 +195,7 @@ ends_inside e n = go (is_two e.edge) refl
   where
     go : (t : Bool) → is_two e.edge ≡ t → BothInside e.edge n (pick t ends.Dropped (both_of (index_of e.first n) (index_of e.other n)))
     go true h = dropped
-    go false h = both_inside h (index_inside e.first n) (index_inside e.other n)
+    go false h = both_inside (index_of e.first n) (index_of e.other n) h (index_inside e.first n) (index_inside e.other n)
 
 data SoundJoined (n : ℕ) : Joined → Type 0 where
   edges : {es : List Stored} → All SoundEdge es → Tidy n es → SoundJoined n (Edges es)

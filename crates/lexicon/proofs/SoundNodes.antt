@@ -1,5 +1,7 @@
 -- A node that was read holds a double and no nan, without the wish no infinity. A letter's is one of the table's, and antt computes the test of each. A
 -- literal's value is an infinity, or is rounded once, since its digits are a double exactly, and is finite. Assumes nothing.
+use Rattle.std.specs.Prelude.{Option, Some, None, Ok, Err}
+use Rattle.std.specs.Option.{IfSome}
 use Prim.Native.Nat.{ℕ, suc, ◌+◌, ◌-◌, ◌^◌, ◌≤◌, ◌<◌}
 use Prim.Native.Char.{code}
 use mathlib.Core.Bool.{Bool, true, false, not, ◌||◌, true≢false}
@@ -19,13 +21,10 @@ use Rattle.float.specs.Constants.{R2, R3, R5}
 use Rattle.float.specs.Root.{root_of}
 use Rattle.float.specs.Decimal as Decimal
 use Rattle.float.specs.Decimal.{signed, in_range, decimal_of}
-use Rattle.float.specs.declared.decimal.Literal.{Literal}
 use Rattle.float.proofs.FiniteValues.{value_finite}
 use Rattle.cd.specs.Letters.{Entry, letters, find, letter_of}
 use Rattle.cd.specs.declared.CdError.{CdError}
 use Rattle.cd.specs.declared.CdError.TheVariants.{InfiniteLength}
-use Rattle.cd.specs.declared.Letter.{Letter}
-use Rattle.cd.specs.declared.Letter.TheVariants.{Stands, Unknown}
 use Rattle.cd.specs.declared.Node.{Node}
 use Rattle.cd.specs.declared.Node.TheVariants.{Unringed, Ringed, Snub}
 use Rattle.cd.specs.declared.NodeRef.{NodeRef}
@@ -36,9 +35,8 @@ use Rattle.length.specs.declared.Exponent.{Exponent}
 use Rattle.length.specs.declared.Length.{Length}
 use Rattle.length.specs.declared.Length.TheVariants.{Value, Infinite, NoNumber, Nan, Range}
 use Rattle.length.proofs.Numbers.{fifteen_digits}
-use Rattle.node.specs.Nodes.{closing, last_byte, length_node, length_at, letter_at, reference_at, letter_node, node_at}
-use Rattle.node.specs.declared.NodeRead.{NodeRead}
-use Rattle.node.specs.declared.NodeRead.TheVariants.{Added, Referred, Refused}
+use Rattle.node.specs.Nodes.{Read, closing, last_byte, length_node, length_at, letter_at, reference_at, letter_node, node_at}
+use Rattle.node.specs.declared.NodeRead.TheVariants.{Added, Referred}
 use Rattle.lexicon.specs.All.{All, nil, cons}
 
 -- a double, not nan, and without the wish no infinity
@@ -83,18 +81,14 @@ letters_sound =
     cons (ring tt tt) (cons (ring tt tt) (cons (ring tt tt) (cons (ring tt tt) (cons (ring tt tt) nil))))))))))))))))))
 
 -- if a letter stands for a node, that is sound
-data SoundLetter (wish : Bool) : Letter → Type 0 where
-  stands : {n : Node} → Sound wish n → SoundLetter wish (Stands n)
-  unknown : SoundLetter wish Unknown
-
-find_sound : {wish : Bool} (es : List Entry) (b : ℕ) → All (λ (e : Entry). Sound wish e.node) es → SoundLetter wish (find es b)
+find_sound : (wish : Bool) (es : List Entry) (b : ℕ) → All (λ (e : Entry). Sound wish e.node) es → IfSome (find es b) (Sound wish)
 unfolding find
-find_sound [] b nil = unknown
-find_sound {wish} (e ∷ es) b (cons h hs) = picked (SoundLetter wish) (eqb b (code e.letter)) (stands h) (find_sound es b hs)
+find_sound wish [] b nil = tt
+find_sound wish (e ∷ es) b (cons h hs) = picked (λ o. IfSome o (Sound wish)) (eqb b (code e.letter)) h (find_sound wish es b hs)
 
-letter_sound : {wish : Bool} (b : ℕ) → SoundLetter wish (letter_of b)
+letter_sound : (wish : Bool) (b : ℕ) → IfSome (letter_of b) (Sound wish)
 unfolding letter_of
-letter_sound b = find_sound letters b letters_sound
+letter_sound wish b = find_sound wish letters b letters_sound
 
 -- ---- a length
 
@@ -124,22 +118,23 @@ signed_infinite true = infinite (record { double = inf-fits binary64 true; numbe
 signed_infinite false = infinite (record { double = inf-fits binary64 false; number = refl; unwished = λ u. absurd (true≢false u) }) refl
 
 -- if a node was read, it is sound
-pub data SoundRead (wish : Bool) : NodeRead → Type 0 where
-  added : {n : Node} {next : ℕ} → Sound wish n → SoundRead wish (Added n next)
-  referred : {r : NodeRef} {next : ℕ} → SoundRead wish (Referred r next)
-  refused : {e : CdError} → SoundRead wish (Refused e)
+pub data SoundRead (wish : Bool) : Read → Type 0 where
+  added : {n : Node} {next : ℕ} → Sound wish n → SoundRead wish (Ok (Added n, next))
+  referred : {r : NodeRef} {next : ℕ} → SoundRead wish (Ok (Referred r, next))
+  refused : {e : CdError} → SoundRead wish (Err e)
 
 module _ (wish : Bool) where
   decimal_of_sound : (w : ℕ) (p : ℤ) (minus : Bool) → w ≤ 2 ^ 53 → SoundLength wish (length_of (decimal_of w p minus))
   unfolding decimal_of length_of
   decimal_of_sound w p minus h =
-      tested (λ (l : Literal). SoundLength wish (length_of l)) (in_range p)
+      tested (λ (l : Option Float). SoundLength wish (length_of l)) (in_range p)
       (λ r. value (signed_length minus (Decimal.value w p) (value_fits w p) (value_finite w p h r)))
       range
 
-  judged_sound : (minus : Bool) (n w f : ℕ) (x : Exponent) → (n ≤ 15 → w < 10 ^ 15) → SoundLength wish (judged minus n w f x)
+  judged_sound : (minus : Bool) (n w f : ℕ) (x : Option Exponent) → (n ≤ 15 → w < 10 ^ 15) → SoundLength wish (judged minus n w f x)
   unfolding judged
-  judged_sound minus n w f x h = picked (SoundLength wish) (eqb n 0 || not x.ok) no_number (counted (ltb 15 n) refl)
+  judged_sound minus n w f None h = no_number
+  judged_sound minus n w f (Some x) h = picked (SoundLength wish) (eqb n 0) no_number (counted (ltb 15 n) refl)
     where
       counted : (t : Bool) → ltb 15 n ≡ t → SoundLength wish (pick (t || ltb 3 x.count) Range (length_of (decimal_of w (power x.minus x.value f) minus)))
       counted true e = range
@@ -162,7 +157,7 @@ module _ (wish : Bool) where
 
   -- ---- a node
 
-  infinite_sound : (t : Bool) {v : Float} (last next : ℕ) → IsLength true v → SoundRead t (pick t (Added (Ringed v) next) (Refused (InfiniteLength last)))
+  infinite_sound : (t : Bool) {v : Float} (last next : ℕ) → IsLength true v → SoundRead t (pick t (Ok (Added (Ringed v), next)) (Err (InfiniteLength last)))
   infinite_sound true last next h = added (ringed h)
   infinite_sound false last next h = refused
 
@@ -174,10 +169,10 @@ module _ (wish : Bool) where
   length_node_sound last next not_a_number = refused
   length_node_sound last next range = refused
 
-  letter_node_sound : {l : Letter} (at : ℕ) → SoundLetter wish l → SoundRead wish (letter_node l at)
+  letter_node_sound : (l : Option Node) (at : ℕ) → IfSome l (Sound wish) → SoundRead wish (letter_node l at)
   unfolding letter_node
-  letter_node_sound at (stands h) = added h
-  letter_node_sound at unknown = refused
+  letter_node_sound (Some n) at h = added h
+  letter_node_sound None at h = refused
 
   letter_at_sound : (bs : List ℕ) (at : ℕ) (negative : Bool) → SoundRead wish (letter_at bs at negative)
   unfolding letter_at
@@ -199,4 +194,4 @@ module _ (wish : Bool) where
   unfolding node_at
   node_sound [] at = refused
   node_sound (b ∷ bs) at =
-      picked (SoundRead wish) (is "(" b) (length_sound bs (at + 1)) (picked (SoundRead wish) (is "*" b) (reference_sound bs (at + 1)) (letter_node_sound at (letter_sound b)))
+      picked (SoundRead wish) (is "(" b) (length_sound bs (at + 1)) (picked (SoundRead wish) (is "*" b) (reference_sound bs (at + 1)) (letter_node_sound (letter_of b) at (letter_sound wish b)))

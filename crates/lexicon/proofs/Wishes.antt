@@ -1,6 +1,7 @@
 -- Document 02, K6: "Reading should turn infinite lengths down by default." Without the wish a text is read as with it, or is refused with 23 and the last byte of an
 -- infinite literal; and it is accepted exactly if it is accepted with the wish and none of its lengths is infinite, as the same diagram. Only a literal's node asks
 -- for the wish. By induction on the turns: what is refused with 23 has, read with the wish, an infinite length, which stays among the nodes. Assumes nothing.
+use Rattle.std.specs.Prelude.{Option, Some, None, Result, Ok, Err}
 use Prim.Native.Nat.{ℕ, zero, suc, ◌+◌, ◌-◌}
 use Prim.Native.Char.{code}
 use mathlib.Core.Bool.{Bool, true, false, ◌&&◌, true≢false}
@@ -16,19 +17,17 @@ use Rattle.float.specs.Pick.{pick}
 use Rattle.cd.specs.Diagrams.{Stored, limit}
 use Rattle.cd.specs.declared.CdError.{CdError}
 use Rattle.cd.specs.declared.CdError.TheVariants.{InfiniteLength}
+use Rattle.cd.specs.declared.Edge.{Edge}
 use Rattle.cd.specs.declared.Node.{Node}
 use Rattle.scan.specs.Ascii.{ascii}
 use Rattle.scan.specs.Bytes.{is}
 use Rattle.scan.specs.Edges.{edge_at}
 use Rattle.scan.specs.Spaces.{skip}
 use Rattle.scan.proofs.Rest.{drop_at}
-use Rattle.scan.specs.declared.EdgeRead.{EdgeRead}
-use Rattle.scan.specs.declared.EdgeRead.TheVariants as edge
 use Rattle.length.specs.Literals.{literal_of}
 use Rattle.length.specs.declared.Length.{Length}
 use Rattle.length.specs.declared.Length.TheVariants.{Infinite}
-use Rattle.node.specs.Nodes.{closing, last_byte, length_node, length_at, node_at}
-use Rattle.node.specs.declared.NodeRead.{NodeRead}
+use Rattle.node.specs.Nodes.{Read, closing, last_byte, length_node, length_at, node_at}
 use Rattle.node.specs.declared.NodeRead.TheVariants as node
 use Rattle.parse.specs.Text.{Seen, start, Outcome, On, onto, Joint, Without, With, taken, node_in, after_edge, turn, turns, text_from}
 use Rattle.parse.specs.Text as text
@@ -64,8 +63,8 @@ comes (m ∷ ns) n h = and_false (is_finite m) {b = false} (λ e. comes ns n h) 
 
 -- ---- what has an infinite length, unless it is refused
 
-data InfiniteNode : NodeRead → Type 0 where
-  added : {n : Node} {next : ℕ} → is_finite n ≡ false → InfiniteNode (node.Added n next)
+data InfiniteNode : Read → Type 0 where
+  added : {n : Node} {next : ℕ} → is_finite n ≡ false → InfiniteNode (Ok (node.Added n, next))
 
 data InfiniteSeen : Outcome → Type 0 where
   on : {at : ℕ} {st : Seen} → all_finite st.nodes ≡ false → InfiniteSeen (On at st)
@@ -91,8 +90,8 @@ unfolding literal_of ascii
 empty_literal v h = let z : ◌≡◌ {A = ℕ} 0 1 = cc in omega arith
 
 module _ (s : List ℕ) where
-  abbrev AlikeNodes : NodeRead → NodeRead → Type 0
-  AlikeNodes = Alike s node.Refused InfiniteNode
+  abbrev AlikeNodes : Read → Read → Type 0
+  AlikeNodes = Alike s Err InfiniteNode
 
   -- a literal from behind i to e, the place of the next `)`
   there : (i e : ℕ) (v : Float) → get_or s i 0 ≡ code "(" → closing (drop (i + 1) s) (i + 1) ≡ e → literal_of (take (e - (i + 1)) (drop (i + 1) s)) ≡ Infinite v → InfiniteLiteral s (last_byte (i + 1) e)
@@ -140,17 +139,17 @@ module _ (s : List ℕ) where
 abbrev AlikeTexts : List ℕ → Outcome → Outcome → Type 0
 AlikeTexts s = Alike s text.Refused InfiniteSeen
 
-taken_infinite : {x : NodeRead} (i : ℕ) (j : Joint) (st : Seen) → InfiniteNode x → InfiniteSeen (taken x i j st)
+taken_infinite : {x : Read} (i : ℕ) (j : Joint) (st : Seen) → InfiniteNode x → InfiniteSeen (taken x i j st)
 unfolding taken
 taken_infinite i j st (added {n} h) = picked InfiniteSeen (leb limit (length st.nodes)) refused (on (comes st.nodes n h))
 
-taken_stays : (x : NodeRead) (i : ℕ) (j : Joint) (st : Seen) → all_finite st.nodes ≡ false → InfiniteSeen (taken x i j st)
+taken_stays : (x : Read) (i : ℕ) (j : Joint) (st : Seen) → all_finite st.nodes ≡ false → InfiniteSeen (taken x i j st)
 unfolding taken
-taken_stays (node.Refused r) i j st h = refused
-taken_stays (node.Referred this next) i j st h = on h
-taken_stays (node.Added n next) i j st h = picked InfiniteSeen (leb limit (length st.nodes)) refused (on (stays st.nodes n h))
+taken_stays (Err r) i j st h = refused
+taken_stays (Ok (node.Referred this, next)) i j st h = on h
+taken_stays (Ok (node.Added n, next)) i j st h = picked InfiniteSeen (leb limit (length st.nodes)) refused (on (stays st.nodes n h))
 
-taken_alike : {s : List ℕ} {x y : NodeRead} (i : ℕ) (j : Joint) (st : Seen) → AlikeNodes s x y → AlikeTexts s (taken x i j st) (taken y i j st)
+taken_alike : {s : List ℕ} {x y : Read} (i : ℕ) (j : Joint) (st : Seen) → AlikeNodes s x y → AlikeTexts s (taken x i j st) (taken y i j st)
 unfolding taken
 taken_alike i j st (same e) = same (ap (λ z. taken z i j st) e)
 taken_alike i j st (turned_down p e l f) = turned_down p (ap (λ z. taken z i j st) e) l (taken_infinite i j st f)
@@ -174,17 +173,17 @@ module _ (s : List ℕ) where
   unfolding node_in
   node_in_stays at j st h = let i = skip (drop at s) at in taken_stays (node_at true (drop i s) i) i j st h
 
-  after_alike : (x : EdgeRead) (at : ℕ) (st : Seen) → AlikeTexts s (after_edge false x s at st) (after_edge true x s at st)
+  after_alike : (x : Result (Option (Edge × ℕ)) CdError) (at : ℕ) (st : Seen) → AlikeTexts s (after_edge false x s at st) (after_edge true x s at st)
   unfolding after_edge
-  after_alike edge.NoEdge at st = node_in_alike at Without st
-  after_alike (edge.Read e next) at st = node_in_alike next (With e) st
-  after_alike (edge.Refused r) at st = same refl
+  after_alike (Ok None) at st = node_in_alike at Without st
+  after_alike (Ok (Some (e, next))) at st = node_in_alike next (With e) st
+  after_alike (Err r) at st = same refl
 
-  after_stays : (x : EdgeRead) (at : ℕ) (st : Seen) → all_finite st.nodes ≡ false → InfiniteSeen (after_edge true x s at st)
+  after_stays : (x : Result (Option (Edge × ℕ)) CdError) (at : ℕ) (st : Seen) → all_finite st.nodes ≡ false → InfiniteSeen (after_edge true x s at st)
   unfolding after_edge
-  after_stays edge.NoEdge at st h = node_in_stays at Without st h
-  after_stays (edge.Read e next) at st h = node_in_stays next (With e) st h
-  after_stays (edge.Refused r) at st h = refused
+  after_stays (Ok None) at st h = node_in_stays at Without st h
+  after_stays (Ok (Some (e, next))) at st h = node_in_stays next (With e) st h
+  after_stays (Err r) at st h = refused
 
   turns_stay : (n at : ℕ) (st : Seen) → all_finite st.nodes ≡ false → InfiniteSeen (turns true n s at st)
   unfolding turns turn

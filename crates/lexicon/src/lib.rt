@@ -24,7 +24,7 @@ pub fn read(text: &[u8], wish: bool) -> Result<Reading, CdError>
     })
 }
 
-// The first numbering that gives the record that was written: for each of the first `count` places its old node.
+// The first numbering that gives the record that was written: for each of the first `count` places its old node. (A count beside an array, since no heap is used.)
 #[derive(Clone, Copy)]
 pub struct Filed {
     pub numbering: [usize; LIMIT],

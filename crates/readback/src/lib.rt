@@ -11,7 +11,6 @@ ghost use Rattle.cd.specs.Minimal.{Decides};
 ghost use Rattle.cd.specs.declared.Node.TheVariants.{Unringed};
 ghost use Rattle.filing.specs.Diagrams.{IsNode, IsDiagram};
 ghost use Rattle.filing.specs.Readable.{node_at, fraction_at, spelled as the_spelled};
-ghost use Rattle.filing.specs.Records.{record_length};
 ghost use Rattle.parse.specs.Reading.{Reading, answer};
 ghost use Rattle.tables.specs.Tables.{IsPair, IsKept};
 ghost use Rattle.readback.specs.ReadBack.{ReadBack};
@@ -32,8 +31,8 @@ fn bytes_at<const W: usize>(s: &[u8], k: usize) -> [u8; W]
 }
 
 // The value bits of node i.
-fn bits_at(s: &[u8], i: usize) -> u64
-    requires { (i < limit) × (length s.now ≡ record_length limit) }
+fn bits_at(s: &[u8; RECORD], i: usize) -> u64
+    requires { i < limit }
     ensures { result ≡ (node_at s.now i).bits }
 {
     u64::from_be_bytes(bytes_at(s, 2 + NODE * i))
@@ -50,7 +49,7 @@ fn edge_at(s: &[u8], k: usize) -> Edge
     }
 }
 
-// Whether 64 bits are a double's that is not nan.
+// Whether 64 bits are a double's that is not nan. (`f64::from_bits` asks for what is tested here.)
 fn is_number(bits: u64) -> bool
     ensures { result ≡ not (nan_bits binary64 bits) }
 {
@@ -58,8 +57,8 @@ fn is_number(bits: u64) -> bool
 }
 
 // Whether kind and value of node i are a node's.
-fn is_node(s: &[u8], i: usize) -> bool
-    requires { (i < limit) × (length s.now ≡ record_length limit) }
+fn is_node(s: &[u8; RECORD], i: usize) -> bool
+    requires { i < limit }
     ensures { Decides (IsNode (node_at s.now i)) result }
 {
     let bits = bits_at(s, i);
@@ -79,31 +78,30 @@ fn is_pair(s: &[u8], k: usize) -> bool
     0 < edge.den && edge.den < edge.num && cd::reduced(edge).den == edge.den
 }
 
-fn are_nodes(s: &[u8], n: usize) -> bool
-    requires { (n ≤ limit) × (length s.now ≡ record_length limit) }
+fn are_nodes(s: &[u8; RECORD], n: usize) -> bool
+    requires { n ≤ limit }
     ensures { Decides (NodesTo s.now n) result }
 {
     (0..n).all(|i| is_node(s, i))
 }
 
-fn are_pairs(s: &[u8], n: usize) -> bool
-    requires { (n ≤ limit) × (length s.now ≡ record_length limit) }
+fn are_pairs(s: &[u8; RECORD], n: usize) -> bool
+    requires { n ≤ limit }
     ensures { Decides (PairsTo limit s.now n) result }
 {
     (0..(n * n - n) / 2).all(|k| is_pair(s, PAIRS_AT + 8 * k))
 }
 
 // Whether count, kinds, values and fractions are a diagram's.
-fn is_spelled(s: &[u8]) -> bool
-    requires { length s.now ≡ record_length limit }
+fn is_spelled(s: &[u8; RECORD]) -> bool
     ensures { Decides (IsKept limit (the_spelled limit s.now)) result }
 {
     let n = s[0] as usize;
     n <= LIMIT && are_nodes(s, n) && are_pairs(s, n)
 }
 
-fn node_at(s: &[u8], i: usize) -> Node
-    requires { (i < limit) × (length s.now ≡ record_length limit) × IsNode (node_at s.now i) }
+fn node_at(s: &[u8; RECORD], i: usize) -> Node
+    requires { (i < limit) × IsNode (node_at s.now i) }
     ensures { result ≡ node (node_at s.now i) }
 {
     let bits = bits_at(s, i);
@@ -114,8 +112,8 @@ fn node_at(s: &[u8], i: usize) -> Node
     }
 }
 
-fn read_nodes(s: &[u8], n: usize) -> [Place; LIMIT]
-    requires { (n ≤ limit) × (length s.now ≡ record_length limit) × NodesTo s.now n }
+fn read_nodes(s: &[u8; RECORD], n: usize) -> [Place; LIMIT]
+    requires { (n ≤ limit) × NodesTo s.now n }
     ensures { result ≡ padded (place Unringed) limit (map place (nodes_to s.now n)) }
 {
     let mut out = [Place {
@@ -135,8 +133,8 @@ pub struct Edges {
 }
 
 // The pairs of place j with the places before it, stored after those of the places before j.
-fn read_row(s: &[u8], j: usize, out: &mut Edges)
-    requires { (j < limit) × (length s.now ≡ record_length limit) × Shows (edges_to limit s.now j) out.old }
+fn read_row(s: &[u8; RECORD], j: usize, out: &mut Edges)
+    requires { (j < limit) × Shows (edges_to limit s.now j) out.old }
     ensures { Shows (edges_to limit s.now (j + 1)) out.new }
 {
     for i in 0..j {
@@ -151,8 +149,8 @@ fn read_row(s: &[u8], j: usize, out: &mut Edges)
     }
 }
 
-fn read_edges(s: &[u8], n: usize) -> Edges
-    requires { (n ≤ limit) × (length s.now ≡ record_length limit) }
+fn read_edges(s: &[u8; RECORD], n: usize) -> Edges
+    requires { n ≤ limit }
     ensures { Shows (edges_to limit s.now n) result }
 {
     let none = Pair {
@@ -170,8 +168,8 @@ fn read_edges(s: &[u8], n: usize) -> Edges
 }
 
 // The diagram that bytes spell.
-fn spelled(s: &[u8]) -> Cd
-    requires { (length s.now ≡ record_length limit) × IsDiagram limit (the_spelled limit s.now) }
+fn spelled(s: &[u8; RECORD]) -> Cd
+    requires { IsDiagram limit (the_spelled limit s.now) }
     ensures { result ≡ cd_of (nodes_in s.now) (edges_in limit s.now) }
 {
     let n = s[0] as usize;
@@ -192,15 +190,15 @@ fn spelled(s: &[u8]) -> Cd
 pub fn read(s: &[u8]) -> Result<Cd, CdError>
     ensures { (x : Reading) × ReadBack limit s.now x × (result ≡ answer x) }
 {
-    if s.len() != RECORD {
+    let Ok(bytes) = <&[u8; RECORD]>::try_from(s) else {
         return Err(CdError::RecordLength);
-    }
-    if !is_spelled(s) {
+    };
+    if !is_spelled(bytes) {
         return Err(CdError::NoDiagram); // for a count, kind, value or fraction
     }
-    let cd = spelled(s);
+    let cd = spelled(bytes);
     let t = tables::of(cd);
-    if !records::is_layout(s, &t, search::plain()) {
+    if !records::is_layout(bytes, &t, search::plain()) {
         return Err(CdError::NoDiagram); // for a filler
     }
     if !search::is_smallest(&t) {

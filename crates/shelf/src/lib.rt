@@ -105,7 +105,7 @@ fn is_at(file: &[u8], n: usize, x: &[u8], p: usize) -> bool
     requires { record_length limit * n ≤ length file.now }
     ensures { Decides (Present limit file.now n x.now p) result }
 {
-    p < n && records::same(place(file, p), x)
+    p < n && place(file, p) == x
 }
 
 // What bisection finds in any file; in one that `check` accepts, what `find` answers.

@@ -15,7 +15,7 @@ few : (c : In-loop-i) → c.loop-i.out.count ≤ limit * limit
 few c = rw c.loop-i.invariant.count (upto_few limit c.args.s.now _ _ c.loop-i-test.true c.requires.0)
 
 pub loop-i-init : goal.loop-i-init
-loop-i-init c = rw row_starts c.requires.2
+loop-i-init c = rw row_starts c.requires.1
 
 pub overflow_add-out : goal.overflow_add-out
 overflow_add-out c = omega (arith, few (goal.at.overflow_add-out c).In-loop-i)

@@ -5,10 +5,10 @@ use Rattle.readback.proofs.SpelledDiagrams.{spelled_few, spelled_nodes}
 use Rattle.readback.proofs.spelled.Goals as goal
 
 pub read_nodes-nodes-requires : goal.read_nodes-nodes-requires
-read_nodes-nodes-requires c = let p = c.requires in (spelled_few limit _ p.1, p.0, spelled_nodes limit _ p.1)
+read_nodes-nodes-requires c = (spelled_few limit _ c.requires, spelled_nodes limit _ c.requires)
 
 pub read_edges-edges-requires : goal.read_edges-edges-requires
-read_edges-edges-requires c = let p = c.requires in (spelled_few limit _ p.1, p.0)
+read_edges-edges-requires c = spelled_few limit _ c.requires
 
 pub returns : goal.returns
 unfolding cd_of
