@@ -64,97 +64,85 @@ fits n (normals.Refused i) s h = cc
 
 -- ---- of a text
 
-pub square_held : (ns : List Node) (es : List Stored) (cox : Cox) → cox ≡ cox_of ns es → ◌≡◌ {A = Square} (record { at = cox.at; count = cox.count }) (shown.square (length ns) (matrix es))
-unfolding cox_of shown.square
-square_held ns es cox h = rw h
+module _ (ns : List Node) (es : List Stored) (cox : Cox) (held : cox ≡ cox_of ns es) where
+  pub matrix_shown : (x : Reading) → x ≡ Accepted ns es → Ok (record { at = cox.at; count = cox.count }) ≡ shown.matrix_of x
+  unfolding cox_of shown.square shown.matrix_of
+  matrix_shown x is = rw (is, held)
 
-pub matrix_shown : (x : Reading) (ns : List Node) (es : List Stored) (s : Square) → x ≡ Accepted ns es → s ≡ shown.square (length ns) (matrix es) → Ok s ≡ shown.matrix_of x
-unfolding shown.matrix_of
-matrix_shown x ns es s is h = rw (is, h)
+  -- the mirrors of a diagram's matrix
+  pub diagram_normals : (walls : Bool) (r : Result Square CdError) → ((e : squares.Square) → cox.at ≡ flat_square limit e → r ≡ shown.shown_mirrors cox.count (mirrors walls e cox.count))
+      → r ≡ shown.shown_mirrors (length ns) (mirrors walls (matrix es) (length ns))
+  unfolding cox_of
+  diagram_normals walls r f = f (matrix es) (ap (λ (y : Cox). y.at) held) ∙ ap (λ (y : Cox). shown.shown_mirrors y.count (mirrors walls (matrix es) y.count)) held
+
+  pub diagram_few : (wish : Bool) (text : List ℕ) → read wish text ≡ Accepted ns es → cox.count ≤ limit
+  unfolding cox_of
+  diagram_few wish text is = rw held (accepted_few wish text ns es is)
 
 pub matrix_refused : (x : Reading) (e : CdError) → x ≡ Refused e → Err e ≡ shown.matrix_of x
 unfolding shown.matrix_of
 matrix_refused x e is = rw is
 
--- which matrix is shown
-pub record Squared (x : Reading) (s : Square) : Type 0 where
-  pub ns : List Node
-  pub es : List Stored
-  pub is : x ≡ Accepted ns es
-  pub held : s.at ≡ flat_square limit (matrix es)
-  pub count : s.count ≡ length ns
-
-pub squared : (x : Reading) (s : Square) → Ok s ≡ shown.matrix_of x → Squared x s
-unfolding shown.matrix_of shown.square
-squared (Accepted ns es) s h = let e : s ≡ shown.square (length ns) (matrix es) = cc in record { ns = ns; es = es; is = refl; held = ap (λ (y : Square). y.at) e; count = ap (λ (y : Square). y.count) e }
-squared (Refused e) s h = cc
-
-pub squared_few : (wish : Bool) (text : List ℕ) (s : Square) → Squared (read wish text) s → s.count ≤ limit
-squared_few wish text s q = rw q.count (accepted_few wish text q.ns q.es q.is)
-
-pub normals_shown : (walls : Bool) (x : Reading) (s : Square) (r : Result Square CdError) → Squared x s
-    → ((e : squares.Square) → s.at ≡ flat_square limit e → r ≡ shown.shown_mirrors s.count (mirrors walls e s.count)) → r ≡ shown.normals_of walls x
+pub normals_shown : (walls : Bool) (x : Reading) (ns : List Node) (es : List Stored) (r : Result Square CdError) → x ≡ Accepted ns es
+    → r ≡ shown.shown_mirrors (length ns) (mirrors walls (matrix es) (length ns)) → r ≡ shown.normals_of walls x
 unfolding shown.normals_of
-normals_shown walls x s r q f = rw (q.is, ← q.count) (f (matrix q.es) q.held)
+normals_shown walls x ns es r is h = rw is h
 
-pub normals_refused : (walls : Bool) (x : Reading) (e : CdError) → Err e ≡ shown.matrix_of x → Err e ≡ shown.normals_of walls x
-unfolding shown.matrix_of shown.normals_of
-normals_refused walls (Accepted ns es) e h = cc
-normals_refused walls (Refused d) e h = h
-
--- the mirrors of a diagram's matrix
-pub diagram_normals : (walls : Bool) (ns : List Node) (es : List Stored) (s : Square) (r : Result Square CdError) → s ≡ shown.square (length ns) (matrix es)
-    → ((e : squares.Square) → s.at ≡ flat_square limit e → r ≡ shown.shown_mirrors s.count (mirrors walls e s.count)) → r ≡ shown.shown_mirrors (length ns) (mirrors walls (matrix es) (length ns))
-unfolding shown.square
-diagram_normals walls ns es s r h f = f (matrix es) (ap (λ (y : Square). y.at) h) ∙ ap (λ (y : Square). shown.shown_mirrors y.count (mirrors walls (matrix es) y.count)) h
-
-pub diagram_few : (wish : Bool) (text : List ℕ) (ns : List Node) (es : List Stored) (s : Square) → read wish text ≡ Accepted ns es → s ≡ shown.square (length ns) (matrix es) → s.count ≤ limit
-unfolding shown.square
-diagram_few wish text ns es s is h = rw h (accepted_few wish text ns es is)
+pub normals_refused : (walls : Bool) (x : Reading) (e : CdError) → x ≡ Refused e → Err e ≡ shown.normals_of walls x
+unfolding shown.normals_of
+normals_refused walls x e is = rw is
 
 -- ---- families
 
 module _ (c n : ℕ) where
-  pub family_shown : (cox : Cox) → cox ≡ family_of c n → is_family limit c n ≡ true → Ok (record { at = cox.at; count = cox.count }) ≡ shown.family_matrix_of c n
-  unfolding family_of shown.square shown.family_matrix_of
-  family_shown cox h t = rw (t, h)
+  few : is_family limit c n ≡ true → n ≤ limit
+  unfolding is_family
+  few t = leb-true n limit ((and-eq-true_iff (leb n limit) _).0 t).0
 
-  pub family_refused : is_family limit c n ≡ false → Err NoFamily ≡ shown.family_matrix_of c n
-  unfolding shown.family_matrix_of
-  family_refused t = rw t
+  -- a family's matrix, or its refusal
+  abbrev pub Held : Result Cox CdError → Type 0
+  Held r = r ≡ pick (is_family limit c n) (Ok (family_of c n)) (Err NoFamily)
 
-  -- which family is shown
-  pub record Family (s : Square) : Type 0 where
+  pub record Family (cox : Cox) : Type 0 where
     pub is : is_family limit c n ≡ true
-    pub held : s.at ≡ flat_square limit (family_matrix c)
-    pub count : s.count ≡ n
+    pub held : cox ≡ family_of c n
 
-  pub family : (s : Square) → Ok s ≡ shown.family_matrix_of c n → Family s
-  unfolding shown.square shown.family_matrix_of
-  family s h = of (is_family limit c n) refl
+  pub family : (cox : Cox) → Held (Ok cox) → Family cox
+  family cox h = of (is_family limit c n) refl
     where
-      of : (t : Bool) → is_family limit c n ≡ t → Family s
-      of true t =
-          let e : s ≡ shown.square n (family_matrix c) = let k = rw t at h in cc in
-          record { is = t; held = ap (λ (y : Square). y.at) e; count = ap (λ (y : Square). y.count) e }
+      of : (t : Bool) → is_family limit c n ≡ t → Family cox
+      of true t = let k = rw t at h in record { is = t; held = (cc) }
       of false t = let k = rw t at h in cc
 
-  pub family_few : (s : Square) → Family s → s.count ≤ limit
-  unfolding is_family
-  family_few s f = rw f.count (leb-true n limit ((and-eq-true_iff (leb n limit) _).0 f.is).0)
-
-  pub family_normals_shown : (walls : Bool) (s : Square) (r : Result Square CdError) → Family s
-      → ((e : squares.Square) → s.at ≡ flat_square limit e → r ≡ shown.shown_mirrors s.count (mirrors walls e s.count)) → r ≡ shown.family_normals_of walls c n
-  unfolding shown.family_normals_of
-  family_normals_shown walls s r f g = rw (f.is, ← f.count) (g (family_matrix c) f.held)
-
-  pub family_normals_refused : (walls : Bool) (e : CdError) → Err e ≡ shown.family_matrix_of c n → Err e ≡ shown.family_normals_of walls c n
-  unfolding shown.family_matrix_of shown.family_normals_of
-  family_normals_refused walls e h = of (is_family limit c n) refl
+  pub no_family : (e : CdError) → Held (Err e) → (is_family limit c n ≡ false) × (e ≡ NoFamily)
+  no_family e h = of (is_family limit c n) refl
     where
-      of : (t : Bool) → is_family limit c n ≡ t → Err e ≡ shown.family_normals_of walls c n
+      of : (t : Bool) → is_family limit c n ≡ t → (is_family limit c n ≡ false) × (e ≡ NoFamily)
       of true t = let k = rw t at h in cc
-      of false t = rw t (rw t at h)
+      of false t = let k = rw t at h in (t, (cc))
+
+  pub family_shown : (cox : Cox) → Held (Ok cox) → Ok (record { at = cox.at; count = cox.count }) ≡ shown.family_matrix_of c n
+  unfolding family_of shown.square shown.family_matrix_of
+  family_shown cox h = let f = family cox h in rw (f.is, f.held)
+
+  pub family_refused : (e : CdError) → Held (Err e) → Err e ≡ shown.family_matrix_of c n
+  unfolding shown.family_matrix_of
+  family_refused e h = let (t, k) = no_family e h in rw (t, k)
+
+  pub family_few : (cox : Cox) → Held (Ok cox) → cox.count ≤ limit
+  unfolding family_of
+  family_few cox h = let f = family cox h in rw f.held (few f.is)
+
+  pub family_normals_shown : (walls : Bool) (cox : Cox) (r : Result Square CdError) → Held (Ok cox)
+      → ((e : squares.Square) → cox.at ≡ flat_square limit e → r ≡ shown.shown_mirrors cox.count (mirrors walls e cox.count)) → r ≡ shown.family_normals_of walls c n
+  unfolding family_of shown.family_normals_of
+  family_normals_shown walls cox r h g =
+      let f = family cox h in
+      rw f.is (g (family_matrix c) (ap (λ (y : Cox). y.at) f.held) ∙ ap (λ (y : Cox). shown.shown_mirrors y.count (mirrors walls (family_matrix c) y.count)) f.held)
+
+  pub family_normals_refused : (walls : Bool) (e : CdError) → Held (Err e) → Err e ≡ shown.family_normals_of walls c n
+  unfolding shown.family_normals_of
+  family_normals_refused walls e h = let (t, k) = no_family e h in rw (t, k)
 
   -- THE MIRRORS AND THE WALLS OF A FAMILY ARE THOSE OF THE MATRIX THAT `family_matrix` ANSWERS
   pub family_normals_of_matrix : (walls : Bool) (m : squares.Square) → is_family limit c n ≡ true → shown.family_matrix_of c n ≡ Ok (shown.square n m)
@@ -163,9 +151,8 @@ module _ (c n : ℕ) where
   family_normals_of_matrix walls m t h =
       let whole : shown.square n (family_matrix c) ≡ shown.square n m = let k = rw t at h in cc in
       let same : flat_square limit (family_matrix c) ≡ flat_square limit m = ap (λ (y : Square). y.at) whole in
-      let few : n ≤ limit = family_few (shown.square n m) (family _ (sym h)) in
       let entry : (i j : ℕ) → j < i → i < n → family_matrix c i j ≡ m i j = λ i j l k.
-      let inside : i < limit = omega (arith, few) in
+      let inside : i < limit = omega (arith, few t) in
       sym (square_at limit (family_matrix c) nan i j inside (omega arith)) ∙ ap (λ z. get_or z (limit * i + j) nan) same ∙ square_at limit m nan i j inside (omega arith) in
       rw t (ap (shown.shown_mirrors n) (mirrors_local walls (family_matrix c) m n entry))
 

@@ -35,23 +35,28 @@ pub flag : (b : Bool) → bool_byte b ≡ pick b 1 0
 flag true = refl
 flag false = refl
 
--- ---- what `fit` stores and answers
+-- ---- what `fit` stores and answers, and what is told of a refusal
 
-module _ {A B : Type 0} (f : A → List ℕ) (g : A → List B) (out : List B) where
-  abbrev pub Fit : Result A CdError → List B → Result (ℕ × ℕ × ℕ) CdError → Type 0
-  Fit r out' t = (out' ≡ lent (fitted (length out) (outcome f g r)) out) × (figures t ≡ told (fitted (length out) (outcome f g r)))
+module _ {B : Type 0} (fs : List ℕ) (xs out : List B) where
+  abbrev pub Fit : List B → Result (ℕ × ℕ × ℕ) CdError → Type 0
+  Fit out' t = (out' ≡ lent (fitted (length out) (Shows fs xs)) out) × (figures t ≡ told (fitted (length out) (Shows fs xs)))
 
-  pub fit_refusal : (e : CdError) → Fit (Err e) out (Err e)
+  pub fit_short : length out < length xs → Fit out (Err ShortBuffer)
+  unfolding fitted lent told figures
+  fit_short l = rw (lt-ltb (length out) (length xs) l) (refl, refl)
+
+  pub fit_shown : (out' : List B) (a b c : ℕ) → length xs ≤ length out → out' ≡ sets out 0 xs → 0 ∷ a ∷ b ∷ c ∷ [] ≡ padded 0 4 (0 ∷ fs) → Fit out' (Ok (a, b, c))
+  unfolding fitted lent told figures
+  fit_shown out' a b c l s t = rw (le-ltb (length out) (length xs) l) (s, t)
+
+module _ {A B : Type 0} (f : A → List ℕ) (g : A → List B) (out : List B) {answer' : List ℕ} {n : ℕ} where
+  pub lends_shown : (x : A) (out' : List B) → Lends (Shows (f x) (g x)) out out' answer' n → Lends (outcome f g (Ok x)) out out' answer' n
+  unfolding outcome
+  lends_shown x out' l = l
+
+  pub lends_refusal : (e : CdError) → (answer' ≡ figures (Err e)) × (n ≡ get_or answer' 0 0) → Lends (outcome f g (Err e)) out out answer' n
   unfolding outcome fitted lent told figures
-  fit_refusal e = (refl, refl)
-
-  pub fit_short : (x : A) → length out < length (g x) → Fit (Ok x) out (Err ShortBuffer)
-  unfolding outcome fitted lent told figures
-  fit_short x l = rw (lt-ltb (length out) (length (g x)) l) (refl, refl)
-
-  pub fit_shown : (x : A) (out' : List B) (a b c : ℕ) → length (g x) ≤ length out → out' ≡ sets out 0 (g x) → 0 ∷ a ∷ b ∷ c ∷ [] ≡ padded 0 4 (0 ∷ f x) → Fit (Ok x) out' (Ok (a, b, c))
-  unfolding outcome fitted lent told figures
-  fit_shown x out' a b c l s t = rw (le-ltb (length out) (length (g x)) l) (s, t)
+  lends_refusal e t = record { slice = refl; answer = t.0; returned = t.1 }
 
 -- what a call with room enough has told, returned and shown
 module _ {A : Type 0} {o : Outcome A} {fs : List ℕ} {xs out out' : List A} {answer' : List ℕ} {r : ℕ} (l : Lends o out out' answer' r) (is : o ≡ Shows fs xs) (room : length xs ≤ length out) where

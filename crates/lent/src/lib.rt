@@ -8,7 +8,7 @@ ghost use Rattle.cd.specs.Arrays.{padded};
 ghost use Rattle.cd.specs.Diagrams.{limit};
 ghost use Rattle.float.specs.Pick.{pick};
 ghost use Rattle.tables.specs.Tables.{IsNumber, Numbers};
-ghost use Rattle.lent.specs.Outcomes.{outcome, fitted, lent, told, figures, Lends};
+ghost use Rattle.lent.specs.Outcomes.{Shows, outcome, fitted, lent, told, figures, Lends};
 ghost use Rattle.lent.specs.Shown.{names_length, reflections_length, flat, node_numbers, pair_numbers, numbers_of, group_numbers, names_of, entries};
 
 use cd::{Cd, CdError, LIMIT, Pair, Place, SQUARE};
@@ -32,6 +32,7 @@ const REFLECTIONS: usize = SQUARE * LIMIT;
 pub type Fields = (usize, usize, usize);
 
 // Stores an answer, or a refusal's number and fields; the first number is what the call returns.
+#[tactic(auto, unfolding(crate::specs::Outcomes::figures))]
 pub fn tell(f: Result<Fields, CdError>, answer: &mut [usize; ANSWER]) -> usize
     ensures { (answer.new ≡ figures f) × (result ≡ get_or answer.new 0 0) }
 {
@@ -116,6 +117,7 @@ impl Shown for Pair {
     }
 }
 
+#[tactic(auto, using(crate::proofs::Showing::numbers_long))]
 impl Shown for Cd {
     type Item = u64;
 
@@ -195,6 +197,7 @@ impl Shown for Groups {
 
 // ---- matrices, generators, reflections
 
+#[tactic(auto, using(crate::proofs::Copying::sets_first))]
 fn put_doubles(from: &[f64], out: &mut [f64])
     requires { length from.now ≤ length out.old }
     ensures { out.new ≡ sets out.old 0 from.now }
@@ -334,11 +337,10 @@ impl Told for Reflections {
 }
 
 // What is shown, if the slice has room for it, and what is to be told.
-fn fit<T: Told + Copy>(r: Result<T, CdError>, out: &mut [T::Item]) -> Result<Fields, CdError>
-    requires { (x : T) → r ≡ Ok x → T.can_show x }
-    ensures { (out.new ≡ lent (fitted (length out.old) (outcome T.told T.shown r)) out.old) × (figures result ≡ told (fitted (length out.old) (outcome T.told T.shown r))) }
+fn fit<T: Told>(x: &T, out: &mut [T::Item]) -> Result<Fields, CdError>
+    requires { T.can_show x.now }
+    ensures { (out.new ≡ lent (fitted (length out.old) (Shows (T.told x.now) (T.shown x.now))) out.old) × (figures result ≡ told (fitted (length out.old) (Shows (T.told x.now) (T.shown x.now)))) }
 {
-    let x = r?;
     if out.len() < x.length() {
         return Err(CdError::ShortBuffer);
     }
@@ -346,13 +348,23 @@ fn fit<T: Told + Copy>(r: Result<T, CdError>, out: &mut [T::Item]) -> Result<Fie
     Ok(x.told())
 }
 
-pub fn show<T: Told + Copy>(
-    r: Result<T, CdError>,
+pub fn show_one<T: Told>(x: &T, out: &mut [T::Item], answer: &mut [usize; ANSWER]) -> usize
+    requires { T.can_show x.now }
+    ensures { Lends (Shows (T.told x.now) (T.shown x.now)) out.old out.new answer.new result }
+{
+    tell(fit(x, out), answer)
+}
+
+pub fn show<T: Told>(
+    r: &Result<T, CdError>,
     out: &mut [T::Item],
     answer: &mut [usize; ANSWER],
 ) -> usize
-    requires { (x : T) → r ≡ Ok x → T.can_show x }
-    ensures { Lends (outcome T.told T.shown r) out.old out.new answer.new result }
+    requires { (x : T) → r.now ≡ Ok x → T.can_show x }
+    ensures { Lends (outcome T.told T.shown r.now) out.old out.new answer.new result }
 {
-    tell(fit(r, out), answer)
+    match r {
+        Ok(x) => show_one(x, out, answer),
+        Err(e) => tell(Err(*e), answer),
+    }
 }

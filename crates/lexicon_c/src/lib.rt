@@ -22,7 +22,7 @@ pub extern "C" fn lexicon_read(
 ) -> usize
     ensures { ReadsForC (wished wish) text.now out.old out.new answer.new result }
 {
-    lent::show(lexicon::read(text, wish != 0), out, answer)
+    lent::show(&lexicon::read(text, wish != 0), out, answer)
 }
 
 #[unsafe(no_mangle)]
@@ -37,8 +37,7 @@ pub extern "C" fn lexicon_write_record(
 {
     let r = lexicon::write_record(text, wish != 0, out);
     if let Ok(f) = &r {
-        let of = f.numbering;
-        *numbering = of;
+        numbering.copy_from_slice(&f.numbering);
     }
     lent::tell(r.map(|f| (f.count, 0, 0)), answer)
 }
@@ -51,7 +50,7 @@ pub extern "C" fn lexicon_read_record(
 ) -> usize
     ensures { ReadsRecordForC bytes.now out.old out.new answer.new result }
 {
-    lent::show(lexicon::read_record(bytes), out, answer)
+    lent::show(&lexicon::read_record(bytes), out, answer)
 }
 
 #[unsafe(no_mangle)]
@@ -63,7 +62,7 @@ pub extern "C" fn lexicon_matrix(
 ) -> usize
     ensures { Lends (of_square (matrix_of (read (wished wish) text.now))) out.old out.new answer.new result }
 {
-    lent::show(geometry::matrix(text, wish != 0), out, answer)
+    lent::show(&geometry::matrix(text, wish != 0), out, answer)
 }
 
 #[unsafe(no_mangle)]
@@ -75,7 +74,7 @@ pub extern "C" fn lexicon_mirrors(
 ) -> usize
     ensures { Lends (of_square (mirrors_of (read (wished wish) text.now))) out.old out.new answer.new result }
 {
-    lent::show(geometry::mirrors(text, wish != 0), out, answer)
+    lent::show(&geometry::mirrors(text, wish != 0), out, answer)
 }
 
 #[unsafe(no_mangle)]
@@ -87,7 +86,7 @@ pub extern "C" fn lexicon_walls(
 ) -> usize
     ensures { Lends (of_square (walls_of (read (wished wish) text.now))) out.old out.new answer.new result }
 {
-    lent::show(geometry::walls(text, wish != 0), out, answer)
+    lent::show(&geometry::walls(text, wish != 0), out, answer)
 }
 
 #[unsafe(no_mangle)]
@@ -99,7 +98,7 @@ pub extern "C" fn lexicon_generator(
 ) -> usize
     ensures { Lends (of_generated (generator_of_text (read (wished wish) text.now))) out.old out.new answer.new result }
 {
-    lent::show(geometry::generator(text, wish != 0), out, answer)
+    lent::show(&geometry::generator(text, wish != 0), out, answer)
 }
 
 #[unsafe(no_mangle)]
@@ -111,7 +110,7 @@ pub extern "C" fn lexicon_wall_generator(
 ) -> usize
     ensures { Lends (of_generated (wall_generator_of_text (read (wished wish) text.now))) out.old out.new answer.new result }
 {
-    lent::show(geometry::wall_generator(text, wish != 0), out, answer)
+    lent::show(&geometry::wall_generator(text, wish != 0), out, answer)
 }
 
 #[unsafe(no_mangle)]
@@ -123,7 +122,11 @@ pub extern "C" fn lexicon_reflections(
 ) -> usize
     ensures { Lends (of_reflected (reflections_of_text (read (wished wish) text.now))) out.old out.new answer.new result }
 {
-    lent::show(geometry::reflections(text, wish != 0), out, answer)
+    // (Not by geometry::reflections: a Result of reflections, which have 5,840 bytes each, is copied on the stack, of which this call then uses 24 KB in place of 18.)
+    match geometry::mirrors(text, wish != 0) {
+        Ok(m) => lent::show_one(&reflections::of(&m.at, m.count), out, answer),
+        Err(e) => lent::tell(Err(e), answer),
+    }
 }
 
 #[unsafe(no_mangle)]
@@ -135,7 +138,7 @@ pub extern "C" fn lexicon_family_matrix(
 ) -> usize
     ensures { Lends (of_square (family_matrix_of letter size)) out.old out.new answer.new result }
 {
-    lent::show(geometry::family_matrix(letter, size), out, answer)
+    lent::show(&geometry::family_matrix(letter, size), out, answer)
 }
 
 #[unsafe(no_mangle)]
@@ -147,7 +150,7 @@ pub extern "C" fn lexicon_family_mirrors(
 ) -> usize
     ensures { Lends (of_square (family_mirrors_of letter size)) out.old out.new answer.new result }
 {
-    lent::show(geometry::family_mirrors(letter, size), out, answer)
+    lent::show(&geometry::family_mirrors(letter, size), out, answer)
 }
 
 #[unsafe(no_mangle)]
@@ -159,7 +162,7 @@ pub extern "C" fn lexicon_family_walls(
 ) -> usize
     ensures { Lends (of_square (family_walls_of letter size)) out.old out.new answer.new result }
 {
-    lent::show(geometry::family_walls(letter, size), out, answer)
+    lent::show(&geometry::family_walls(letter, size), out, answer)
 }
 
 #[unsafe(no_mangle)]
@@ -171,7 +174,7 @@ pub extern "C" fn lexicon_names(
 ) -> usize
     ensures { NamesForC (wished wish) text.now out.old out.new answer.new result }
 {
-    lent::show(lexicon_names::names(text, wish != 0), out, answer)
+    lent::show(&lexicon_names::names(text, wish != 0), out, answer)
 }
 
 // ---- shelf files

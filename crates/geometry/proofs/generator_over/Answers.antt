@@ -16,13 +16,13 @@ returns-in_err-cd c =
 pub normals-requires : goal.normals-requires
 normals-requires c =
     let a = accepts _ _ c.in_ok-cd.ensures in
-    diagram_few _ _ a.ns a.es _ a.is (c.diagram_matrix.ensures a.ns a.es a.held)
+    diagram_few a.ns a.es _ (c.matrix.ensures a.ns a.es a.held) _ _ a.is
 
 pub returns-in_err-columns : goal.returns-in_err-columns
 returns-in_err-columns c =
     let a = accepts _ _ c.in_ok-cd.ensures in
     let p = err_from_is_err_and c.from_residual-in_err-columns.result c.from_residual-in_err-columns.ensures.1 in
-    let e = diagram_normals _ a.ns a.es _ _ (c.diagram_matrix.ensures a.ns a.es a.held) c.in_err-columns.ensures in
+    let e = diagram_normals a.ns a.es _ (c.matrix.ensures a.ns a.es a.held) _ _ c.in_err-columns.ensures in
     rw (p.1, p.2) (generator_shown _ _ a.ns a.es _ _ a.is refl (generator_crowded _ a.ns _ _ _ e))
 
 pub first_infinite-requires : goal.first_infinite-requires
@@ -31,7 +31,7 @@ first_infinite-requires c = read_few _ _ _ c.in_ok-cd.ensures
 pub returns-in-Some : goal.returns-in-Some
 returns-in-Some c =
     let a = accepts _ _ c.in_ok-cd.ensures in
-    let f = fits _ _ _ (diagram_normals _ a.ns a.es _ _ (c.diagram_matrix.ensures a.ns a.es a.held) c.in_ok-columns.ensures) in
+    let f = fits _ _ _ (diagram_normals a.ns a.es _ (c.matrix.ensures a.ns a.es a.held) _ _ c.in_ok-columns.ensures) in
     let n = count_held _ a.ns a.es a.held in
     let first = first_found a.ns _ _ n (read_few _ _ _ c.in_ok-cd.ensures) (c.values-values.ensures a.ns a.es a.held) in
     generator_shown _ _ a.ns a.es _ _ a.is f.is (generator_infinite _ a.ns f.square _ n _ (sym first ∙ sym c.in-Some.ensures))
@@ -42,7 +42,7 @@ of-requires c = read_few _ _ _ c.in_ok-cd.ensures
 pub returns : goal.returns
 returns c =
     let a = accepts _ _ c.in_ok-cd.ensures in
-    let f = fits _ _ _ (diagram_normals _ a.ns a.es _ _ (c.diagram_matrix.ensures a.ns a.es a.held) c.in_ok-columns.ensures) in
+    let f = fits _ _ _ (diagram_normals a.ns a.es _ (c.matrix.ensures a.ns a.es a.held) _ _ c.in_ok-columns.ensures) in
     let n = count_held _ a.ns a.es a.held in
     let v = c.values-values.ensures a.ns a.es a.held in
     let first = first_found a.ns _ _ n (read_few _ _ _ c.in_ok-cd.ensures) v in

@@ -12,4 +12,4 @@ returns-in_err-parse c =
 pub returns : goal.returns
 returns c =
     let a = accepts _ _ c.in_ok-parse.ensures in
-    matrix_shown _ a.ns a.es _ a.is (c.diagram_matrix.ensures a.ns a.es a.held)
+    matrix_shown a.ns a.es _ (c.matrix-count.ensures a.ns a.es a.held) _ a.is

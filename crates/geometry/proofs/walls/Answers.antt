@@ -1,15 +1,20 @@
 -- `geometry::walls` meets its contract.
 use Rattle.std.proofs.lemmas.Result.{err_from_is_err_and}
-use Rattle.geometry.proofs.Shapes.{squared, squared_few, normals_shown, normals_refused}
+use Rattle.lexicon.proofs.Answers.{accepts, refuses}
+use Rattle.geometry.proofs.Shapes.{diagram_normals, diagram_few, normals_shown, normals_refused}
 use Rattle.geometry.proofs.walls.Goals as goal
 
-pub returns-in_err-matrix : goal.returns-in_err-matrix
-returns-in_err-matrix c =
+pub returns-in_err-parse : goal.returns-in_err-parse
+returns-in_err-parse c =
     let p = err_from_is_err_and c.from_residual.result c.from_residual.ensures.1 in
-    rw (p.1, p.2) (normals_refused _ _ _ c.in_err-matrix.ensures)
+    rw (p.1, p.2) (normals_refused _ _ _ (refuses _ _ c.in_err-parse.ensures))
 
 pub normals-requires : goal.normals-requires
-normals-requires c = squared_few _ _ _ (squared _ _ c.in_ok-matrix.ensures)
+normals-requires c =
+    let a = accepts _ _ c.in_ok-parse.ensures in
+    diagram_few a.ns a.es _ (c.matrix.ensures a.ns a.es a.held) _ _ a.is
 
 pub returns : goal.returns
-returns c = normals_shown _ _ _ _ (squared _ _ c.in_ok-matrix.ensures) c.normals.ensures
+returns c =
+    let a = accepts _ _ c.in_ok-parse.ensures in
+    normals_shown _ _ a.ns a.es _ a.is (diagram_normals a.ns a.es _ (c.matrix.ensures a.ns a.es a.held) _ _ c.normals.ensures)

@@ -1,5 +1,5 @@
 -- `lexicon_c::lexicon_write_record` meets its contract.
-use mathlib.Core.Path.{◌≡◌}
+use mathlib.Core.Path.{◌≡◌, ◌∙◌}
 use borrow.Author.Rules.{rules}
 use Rattle.cd.specs.Arrays.{padded}
 use Rattle.lexicon_c.specs.Calls.{replaced}
@@ -11,7 +11,10 @@ pub returns : goal.returns
 unfolding padded replaced
 returns c =
     let nodes : c.match-r.numbering ≡ replaced c.write_record-r.result c.args.numbering.now =
-    elim c.match-r.branch [ in-Ok w ↦ rw w.in-Ok.is w.numbering-is | in_default w ↦ rw w.in_default.is w.numbering-is ] in
+    elim c.match-r.branch [
+      | in-Ok w ↦ let copied : w.copy_from_slice.new.self ≡ w.in-Ok.f.numbering = search rules in rw w.in-Ok.is (w.numbering-is ∙ copied)
+      | in_default w ↦ rw w.in_default.is w.numbering-is
+    ] in
     record {
       filed = c.write_record-r.result;
       files = c.write_record-r.ensures;
