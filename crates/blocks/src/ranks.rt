@@ -10,7 +10,7 @@ use cd::{LIMIT, SQUARE};
 use std::marker::Model;
 use tables::Tables;
 
-// Numbers, each once. Clauses see the list of them.
+// Numbers, each once. Clauses see the list of them. (An array and a count, since no heap is used.)
 #[derive(Drop)]
 struct Listed {
     at: [u64; SQUARE],

@@ -232,7 +232,7 @@ pub fn index(r: NodeRef, len: usize) -> Option<usize>
     }
 }
 
-// What is to be done with an edge that waits.
+// What is to be done with an edge that waits. (Three cases with names of their own: an option of a result would be no plainer.)
 #[derive(Clone, Copy)]
 pub enum Ends {
     // It is worth 2, and dropped unseen.

@@ -11,7 +11,7 @@ use cd::{Cd, LIMIT, PAIRS, Pair, SQUARE};
 
 pub mod families; // families.rt: the matrices of A, B, D, E and H
 
-// The matrix of `count` nodes; past them, that of nodes that nothing joins.
+// The matrix of `count` nodes; past them, that of nodes that nothing joins. (An array and a count, since no heap is used.)
 #[derive(Clone, Copy)]
 pub struct Cox {
     pub at: [f64; SQUARE],

@@ -7,6 +7,7 @@ ghost use Rattle.float.specs.Decimal.{signed};
 ghost use Rattle.length.specs.Literals.{power, judged, exponent, decimal, fold, is_word, unsigned, literal_of};
 ghost use Rattle.length.specs.Kept.{Took, Signs, kept};
 
+// What a literal is. (Five kinds, of which each has a refusal or a node of its own: a result of some would be no plainer.)
 #[derive(Clone, Copy)]
 pub enum Length {
     Value(f64),

@@ -125,7 +125,7 @@ fn read_nodes(s: &[u8; RECORD], n: usize) -> [Place; LIMIT]
     out
 }
 
-// The pair places, and how many edges they hold.
+// The pair places, and how many edges they hold. (The two fields of a diagram that rows of a record fill.)
 #[derive(Clone, Copy)]
 pub struct Edges {
     pub pairs: [Pair; PAIRS],

@@ -14,7 +14,7 @@ pub struct Matrix {
     pub at: [f64; SQUARE],
 }
 
-// One matrix for each of `count` mirrors.
+// One matrix for each of `count` mirrors. (An array and a count, since no heap is used.)
 #[derive(Clone, Copy)]
 pub struct Reflections {
     pub of: [Matrix; LIMIT],

@@ -75,7 +75,7 @@ pub fn check(file: &[u8]) -> Result<usize, CdError>
 
 // ---- a record looked up
 
-// Whether a record is in a file, and its place: where it is, or where it would stand.
+// Whether a record is in a file, and its place: where it is, or where it would stand. (C is told both, as 1 or 0 and the place.)
 #[derive(Clone, Copy)]
 pub struct Found {
     pub present: bool,

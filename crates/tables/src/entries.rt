@@ -5,7 +5,8 @@ ghost use Rattle.filing.specs.Numberings.{at};
 
 use cd::{LIMIT, SQUARE};
 
-// Of the first `count` nodes the kinds and the value bits, and of two nodes u and v, at LIMIT × u + v, the number of their pair.
+// Of the first `count` nodes the kinds and the value bits, and of two nodes u and v, at LIMIT × u + v, the number of their pair. (Arrays and
+// a count, since no heap is used.)
 #[derive(Clone, Copy)]
 pub struct Tables {
     pub count: usize,

@@ -25,6 +25,7 @@ fn pair_number(p: Pair) -> u64
     e.num as u64 * 0x1_0000_0000 + e.den as u64
 }
 
+// A node's kind, as a byte of the record.
 #[tactic(auto, unfolding(crate::specs::Diagrams::filed))]
 pub fn kind(n: Node) -> u8
     ensures { result ≡ (filed n).kind }
