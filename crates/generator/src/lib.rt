@@ -11,7 +11,7 @@ ghost use Rattle.cox.specs.Squares.{Square, flat, flat_square};
 
 use cd::{Cd, LIMIT, Node, SQUARE};
 
-// It carries its coordinates, the first `count`, and its circumradius.
+// It carries its coordinates, the first `count`, and its circumradius. (An array, a count and the radius, as document 01 has it.)
 #[derive(Clone, Copy)]
 pub struct Generator {
     pub at: [f64; LIMIT],

@@ -8,7 +8,7 @@ ghost use Rattle.parse.specs.Reading.{joined, kept, answer};
 use cd::{Cd, CdError, Edge, EdgeRef, Ends, LIMIT, Node, NodeRef, PAIRS, Pair, Place};
 use node::NodeRead;
 
-// Edges wait here. A turn that adds one reads two bytes, so 128 places do for 255.
+// Edges wait here. A turn that adds one reads two bytes, so 128 places do for 255. (An array with a count, as document 01 has it.)
 #[derive(Clone, Copy)]
 pub struct Queue {
     pub at: [EdgeRef; 128],
