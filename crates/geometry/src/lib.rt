@@ -10,7 +10,7 @@ ghost use Rattle.cox.specs.Shown.{family_of};
 ghost use Rattle.cox.specs.Squares as squares;
 ghost use Rattle.float.specs.Pick.{pick};
 ghost use Rattle.geometry.specs.Points.{generator_over, generator_of_text, wall_generator_of_text, reflections_of_text};
-ghost use Rattle.geometry.specs.Squares.{shown_mirrors, matrix_of, mirrors_of, walls_of, family_matrix_of, family_mirrors_of, family_walls_of};
+ghost use Rattle.geometry.specs.Squares.{shown_mirrors, matrix_of, normals_of, mirrors_of, walls_of, family_matrix_of, family_normals_of, family_mirrors_of, family_walls_of};
 ghost use Rattle.normals.specs.Mirrors.{mirrors as the_mirrors};
 ghost use Rattle.parse.specs.Reading.{read};
 
@@ -48,17 +48,23 @@ pub fn matrix(text: &[u8], wish: bool) -> Result<Square, CdError>
     Ok(Square { at, count })
 }
 
+fn text_normals(walls: bool, text: &[u8], wish: bool) -> Result<Square, CdError>
+    ensures { result ≡ normals_of walls (read wish text.now) }
+{
+    normals(walls, &cox::matrix(builder::parse(text, wish)?))
+}
+
 pub fn mirrors(text: &[u8], wish: bool) -> Result<Square, CdError>
     ensures { result ≡ mirrors_of (read wish text.now) }
 {
-    normals(false, &cox::matrix(builder::parse(text, wish)?))
+    text_normals(false, text, wish)
 }
 
 // Coxeter's walls, which meet with product −cos(π/m).
 pub fn walls(text: &[u8], wish: bool) -> Result<Square, CdError>
     ensures { result ≡ walls_of (read wish text.now) }
 {
-    normals(true, &cox::matrix(builder::parse(text, wish)?))
+    text_normals(true, text, wish)
 }
 
 fn generator_over(walls: bool, text: &[u8], wish: bool) -> Result<Generator, CdError>
@@ -113,14 +119,20 @@ pub fn family_matrix(letter: u8, size: usize) -> Result<Square, CdError>
     Ok(Square { at, count })
 }
 
+fn family_normals(walls: bool, letter: u8, size: usize) -> Result<Square, CdError>
+    ensures { result ≡ family_normals_of walls letter size }
+{
+    normals(walls, &family(letter, size)?)
+}
+
 pub fn family_mirrors(letter: u8, size: usize) -> Result<Square, CdError>
     ensures { result ≡ family_mirrors_of letter size }
 {
-    normals(false, &family(letter, size)?)
+    family_normals(false, letter, size)
 }
 
 pub fn family_walls(letter: u8, size: usize) -> Result<Square, CdError>
     ensures { result ≡ family_walls_of letter size }
 {
-    normals(true, &family(letter, size)?)
+    family_normals(true, letter, size)
 }

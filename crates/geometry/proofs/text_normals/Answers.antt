@@ -1,8 +1,8 @@
--- `geometry::walls` meets its contract.
+-- `geometry::text_normals` meets its contract.
 use Rattle.std.proofs.lemmas.Result.{err_from_is_err_and}
 use Rattle.lexicon.proofs.Answers.{accepts, refuses}
 use Rattle.geometry.proofs.Shapes.{diagram_normals, diagram_few, normals_shown, normals_refused}
-use Rattle.geometry.proofs.walls.Goals as goal
+use Rattle.geometry.proofs.text_normals.Goals as goal
 
 pub returns-in_err-parse : goal.returns-in_err-parse
 returns-in_err-parse c =

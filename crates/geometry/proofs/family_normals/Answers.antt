@@ -1,7 +1,7 @@
--- `geometry::family_walls` meets its contract.
+-- `geometry::family_normals` meets its contract.
 use Rattle.std.proofs.lemmas.Result.{err_from_is_err_and}
 use Rattle.geometry.proofs.Shapes.{family_few, family_normals_shown, family_normals_refused}
-use Rattle.geometry.proofs.family_walls.Goals as goal
+use Rattle.geometry.proofs.family_normals.Goals as goal
 
 pub returns-in_err-family : goal.returns-in_err-family
 returns-in_err-family c =
