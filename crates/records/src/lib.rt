@@ -9,7 +9,7 @@ ghost use Rattle.filing.specs.Bytes.{◌≼◌, bytes, written};
 ghost use Rattle.filing.specs.Numberings.{Numbering, at};
 ghost use Rattle.filing.specs.Records.{nodes_length, record_length};
 ghost use Rattle.tables.specs.Diagrams.{diagram};
-ghost use Rattle.tables.specs.Tables.{Numbers, IsKept, table_nodes, table_row, table_pairs, table_layout};
+ghost use Rattle.tables.specs.Tables.{Numbers, IsKept, entries, table_nodes, table_row, table_pairs, table_layout};
 ghost use Rattle.records.specs.Written.{Written};
 
 use cd::{Cd, LIMIT};
@@ -50,7 +50,7 @@ fn put_count(out: &mut [u8], n: usize)
 // The nodes, each at its place under the numbering.
 fn put_nodes(out: &mut [u8], t: &Tables, p: &[usize; LIMIT])
     requires { Numbering t.now.count (at p.now) × (record_length limit ≤ length out.old) }
-    ensures { out.new ≡ written 1 (table_nodes t.now (at p.now) t.now.count) out.old }
+    ensures { out.new ≡ written 1 (table_nodes (entries t.now) (at p.now) t.now.count) out.old }
 {
     for i in 0..t.count {
         let k = 1 + NODE * i;
@@ -62,7 +62,7 @@ fn put_nodes(out: &mut [u8], t: &Tables, p: &[usize; LIMIT])
 // The pairs of place j with the places before it, at k.
 fn put_row(out: &mut [u8], k: usize, t: &Tables, p: &[usize; LIMIT], j: usize)
     requires { (j < t.now.count) × Numbering t.now.count (at p.now) × (k + 8 * j ≤ length out.old) }
-    ensures { out.new ≡ written k (table_row limit t.now (at p.now) j) out.old }
+    ensures { out.new ≡ written k (table_row limit (entries t.now) (at p.now) j) out.old }
 {
     for i in 0..j {
         put_number(out, k + 8 * i, t.pair(p[i], p[j]));
@@ -72,7 +72,7 @@ fn put_row(out: &mut [u8], k: usize, t: &Tables, p: &[usize; LIMIT], j: usize)
 // The pairs, row by row.
 fn put_pairs(out: &mut [u8], t: &Tables, p: &[usize; LIMIT])
     requires { Numbering t.now.count (at p.now) × (record_length limit ≤ length out.old) }
-    ensures { out.new ≡ written (1 + nodes_length limit) (table_pairs limit t.now (at p.now) t.now.count) out.old }
+    ensures { out.new ≡ written (1 + nodes_length limit) (table_pairs limit (entries t.now) (at p.now) t.now.count) out.old }
 {
     let mut k = PAIRS_AT;
     for j in 0..t.count {
@@ -84,7 +84,7 @@ fn put_pairs(out: &mut [u8], t: &Tables, p: &[usize; LIMIT])
 // The layout under a numbering.
 fn lay(out: &mut [u8], t: &Tables, p: &[usize; LIMIT])
     requires { Numbering t.now.count (at p.now) × (record_length limit ≤ length out.old) }
-    ensures { out.new ≡ table_layout limit t.now (at p.now) ++ drop (record_length limit) out.old }
+    ensures { out.new ≡ table_layout limit (entries t.now) (at p.now) ++ drop (record_length limit) out.old }
 {
     put_count(out, t.count);
     put_nodes(out, t, p);
@@ -108,7 +108,7 @@ pub fn no_greater(a: &[u8], b: &[u8]) -> bool
 // Whether bytes are the layout under a numbering.
 pub fn is_layout(s: &[u8], t: &Tables, p: [usize; LIMIT]) -> bool
     requires { Numbering t.now.count (at p) }
-    ensures { Decides (s.now ≡ table_layout limit t.now (at p)) result }
+    ensures { Decides (s.now ≡ table_layout limit (entries t.now) (at p)) result }
 {
     let mut out = [0; RECORD];
     lay(&mut out, t, &p);
