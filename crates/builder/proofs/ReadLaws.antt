@@ -17,11 +17,11 @@ use Rattle.parse.specs.Reading.{Refused, joined, high, kept, read_from, answer}
 module _ (wish : Bool) (s : List ℕ) (at : ℕ) where
   -- what the tests leave of `read_from`
   pub too_long : 255 < length s → read_from wish s at ≡ Refused (TooLong 255)
-  unfolding read_from kept
+  unfolding read_from
   too_long h = rw (lt-ltb 255 (length s) h)
 
   pub not_low : (i : ℕ) → length s ≤ 255 → i ≡ high s 0 → i < length s → read_from wish s at ≡ Refused (NotAscii i)
-  unfolding read_from kept
+  unfolding read_from
   not_low i h e k = rw (le-ltb 255 (length s) h, ← e, lt-ltb i (length s) k)
 
   pub low : (i : ℕ) → length s ≤ 255 → i ≡ high s 0 → length s ≤ i → read_from wish s at ≡ kept (joined (text_from wish s at))

@@ -112,7 +112,8 @@ module _ (s : List ℕ) (i : ℕ) (before : Option ℕ) (p : Part) where
   run_at_end h = rw (drop_of_length-le s h)
 
   pub run_at_length : i ≡ length s → Err (UnexpectedEnding (length s)) ≡ run (drop i s) i before p
-  run_at_length e = ap (λ k. Err (UnexpectedEnding k)) (sym e) ∙ run_at_end (omega arith)
+  unfolding run
+  run_at_length e = let h : length s ≤ i = omega arith in rw (drop_of_length-le s h, e)
 
 -- ---- an optional edge at a position, the first byte from there on that is no space being at i
 
