@@ -27,6 +27,7 @@ impl Model for Listed {
 
 impl Listed {
     // The numbers of the pairs.
+    #[inline(always)]
     fn of(t: &Tables) -> Self
         ensures { (u v : ℕ) → u < t.now.count → v < t.now.count → Contains result (table limit t.now.pairs u v) }
     {
@@ -89,6 +90,7 @@ pub struct Ranks {
 }
 
 impl Ranks {
+    #[inline(always)]
     pub fn of(t: &Tables) -> Self
         ensures { (result.count ≡ t.now.count) × Ranked t.now.count (table limit t.now.pairs) (table limit result.pairs) }
     {

@@ -1,10 +1,6 @@
 -- `reflections::of` meets its contract; Invariants.antt has the argument.
 use mathlib.Core.Path.{◌≡◌, ap, ◌∙◌}
 use native.Mathlib.Omega.{arith}
-use borrow.Author.Rules.{rules}
-use Rattle.cd.specs.Diagrams.{limit}
-use Rattle.cox.specs.Squares.{flat_square}
-use Rattle.reflections.specs.Reflections.{unit}
 use Rattle.reflections.proofs.Matrices.{made, made_none, made_more, made_all}
 use Rattle.reflections.proofs.of.Goals as goal
 
@@ -13,8 +9,7 @@ loop-i-init c f e = made_none c.args.n f _ c.zeros.ensures
 
 pub loop-i-preserved : goal.loop-i-preserved
 loop-i-preserved c f e =
-    let units : c.square-units.result ≡ flat_square limit unit = c.square-units.ensures unit (λ j r x h l p. search rules) in
-    made_more c.loop-i.i c.args.n f _ _ (omega arith) (c.reflection.ensures f units e) (c.loop-i.invariant f e)
+    made_more c.loop-i.i c.args.n f _ _ (omega arith) (c.reflection.ensures f e) (c.loop-i.invariant f e)
 
 pub returns : goal.returns
 returns c f e =
