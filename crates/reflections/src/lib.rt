@@ -55,11 +55,13 @@ pub fn of(m: &[f64; SQUARE], n: usize) -> Reflections
     requires { n ≤ limit }
     ensures { (f : Square) → m.now ≡ flat_square limit f → result ≡ reflections_of n f }
 {
-    let mut of = [Matrix { at: cox::zeros() }; LIMIT];
+    // (Filled where it is handed on: an array of its own was filled or copied once more, and took as long as all the rest for a text of few nodes.)
+    let mut all = Reflections {
+        of: [Matrix { at: cox::zeros() }; LIMIT],
+        count: n,
+    };
     for i in 0..n {
-        of[i] = Matrix {
-            at: reflection(m, i, n),
-        };
+        all.of[i].at = reflection(m, i, n);
     }
-    Reflections { of, count: n }
+    all
 }
