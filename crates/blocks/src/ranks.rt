@@ -95,13 +95,13 @@ impl Ranks {
         ensures { (result.count ≡ t.now.count) × Ranked t.now.count (table limit t.now.pairs) (table limit result.pairs) }
     {
         let list = Listed::of(t);
-        let mut pairs = [0; SQUARE];
-        for u in 0..t.count {
-            list.rank_row(t, u, &mut pairs);
-        }
-        Ranks {
+        let mut ranks = Ranks {
             count: t.count,
-            pairs,
+            pairs: [0; SQUARE],
+        };
+        for u in 0..t.count {
+            list.rank_row(t, u, &mut ranks.pairs);
         }
+        ranks
     }
 }
