@@ -24,6 +24,7 @@ pub struct Trial {
 
 impl Trial {
     // The blocks of every place.
+    #[inline(always)]
     pub fn of(r: &Ranks, nodes: [usize; LIMIT]) -> Self
         requires { Numbering r.now.count (at nodes) }
         ensures { (result.nodes ≡ nodes) × (length result.keys ≡ limit * limit) × Keyed limit (table limit r.now.pairs) r.now.count r.now.count (at nodes) result.keys }
@@ -61,6 +62,7 @@ impl Trial {
     }
 
     // The blocks of the numbering's own nodes.
+    #[inline(always)]
     pub fn own_blocks(&self, n: usize) -> [u64; LIMIT]
         requires { (n ≤ limit) × Numbering n (at self.now.nodes) }
         ensures { (length result ≡ limit) × ((i : ℕ) → i < n → at result i ≡ at self.now.keys (limit * i + at self.now.nodes i)) }

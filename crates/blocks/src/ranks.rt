@@ -27,6 +27,7 @@ impl Model for Listed {
 
 impl Listed {
     // The numbers of the pairs.
+    #[inline(always)]
     fn of(t: &Tables) -> Self
         ensures { (u v : ℕ) → u < t.now.count → v < t.now.count → Contains result (table limit t.now.pairs u v) }
     {
@@ -89,17 +90,18 @@ pub struct Ranks {
 }
 
 impl Ranks {
+    #[inline(always)]
     pub fn of(t: &Tables) -> Self
         ensures { (result.count ≡ t.now.count) × Ranked t.now.count (table limit t.now.pairs) (table limit result.pairs) }
     {
         let list = Listed::of(t);
-        let mut pairs = [0; SQUARE];
-        for u in 0..t.count {
-            list.rank_row(t, u, &mut pairs);
-        }
-        Ranks {
+        let mut ranks = Ranks {
             count: t.count,
-            pairs,
+            pairs: [0; SQUARE],
+        };
+        for u in 0..t.count {
+            list.rank_row(t, u, &mut ranks.pairs);
         }
+        ranks
     }
 }

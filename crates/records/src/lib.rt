@@ -22,12 +22,14 @@ pub const NODE: usize = 9;
 
 pub const PAIRS_AT: usize = 82;
 
-// Stores bytes from `at` on.
+// Stores bytes from `at` on. (By a loop, since `copy_from_slice` would have the archive for C ask for memmove.)
 pub fn put(out: &mut [u8], at: usize, from: &[u8])
     requires { at + length from.now ≤ length out.old }
     ensures { out.new ≡ written at from.now out.old }
 {
-    out[at..at + from.len()].copy_from_slice(from);
+    for i in 0..from.len() {
+        out[at + i] = from[i];
+    }
 }
 
 // A number in eight bytes, the highest first.

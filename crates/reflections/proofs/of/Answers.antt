@@ -1,22 +1,22 @@
 -- `reflections::of` meets its contract; Invariants.antt has the argument.
-use mathlib.Core.Path.{◌≡◌, ap, ◌∙◌}
+use mathlib.Core.Path.{◌≡◌, refl, ap, ◌∙◌}
 use native.Mathlib.Omega.{arith}
-use borrow.Author.Rules.{rules}
-use Rattle.cd.specs.Diagrams.{limit}
-use Rattle.cox.specs.Squares.{flat_square}
-use Rattle.reflections.specs.Reflections.{unit}
+use lib.ListN.{set}
+use Rattle.reflections.specs.declared.Reflections.{Reflections}
 use Rattle.reflections.proofs.Matrices.{made, made_none, made_more, made_all}
 use Rattle.reflections.proofs.of.Goals as goal
 
 pub loop-i-init : goal.loop-i-init
-loop-i-init c f e = made_none c.args.n f _ c.zeros.ensures
+loop-i-init c f e = ap (λ of. record { of = of; count = c.args.n }) (made_none c.args.n f _ c.zeros.ensures)
 
 pub loop-i-preserved : goal.loop-i-preserved
 loop-i-preserved c f e =
-    let units : c.square-units.result ≡ flat_square limit unit = c.square-units.ensures unit (λ j r x h l p. search rules) in
-    made_more c.loop-i.i c.args.n f _ _ (omega arith) (c.reflection.ensures f units e) (c.loop-i.invariant f e)
+    let i = c.loop-i.i in
+    let n = c.args.n in
+    ap (λ (a : Reflections). record { of = set a.of i (record { at = c.reflection.result }); count = a.count }) (c.loop-i.invariant f e)
+    ∙ ap (λ of. record { of = of; count = n }) (made_more i n f (made i n f) _ (omega arith) (c.reflection.ensures f e) refl)
 
 pub returns : goal.returns
 returns c f e =
     let n = c.args.n in
-    made_all n f _ (c.loop-i.invariant f e ∙ ap (λ k. made k n f) (omega arith))
+    c.loop-i.invariant f e ∙ made_all n f _ (ap (λ k. made k n f) (omega arith))

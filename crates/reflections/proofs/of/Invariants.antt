@@ -6,4 +6,4 @@ use Rattle.reflections.proofs.Matrices.{made}
 use Rattle.reflections.proofs.of.Given as goal
 
 abbrev pub invariant-loop-i : goal.invariant-loop-i
-invariant-loop-i l = (f : Square) → l.m ≡ flat_square limit f → l.of ≡ made l.i l.n f
+invariant-loop-i l = (f : Square) → l.m ≡ flat_square limit f → l.all ≡ record { of = made l.i l.n f; count = l.n }

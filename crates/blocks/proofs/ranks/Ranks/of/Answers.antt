@@ -11,10 +11,10 @@ use Rattle.blocks.proofs.Rows.{zeros_low}
 use Rattle.blocks.proofs.ranks.Ranks.of.Goals as goal
 
 pub loop-u-init : goal.loop-u-init
-loop-u-init c = (zeros_low base (limit * limit) (omega arith), λ w h. absurd (not-suc-le-zero h))
+loop-u-init c = (refl, zeros_low base (limit * limit) (omega arith), λ w h. absurd (not-suc-le-zero h))
 
 pub returns : goal.returns
 returns c = (
-  refl,
-  ranked c.of-list.result c.args.t.now.count (table limit c.args.t.now.pairs) (table limit c.loop-u.pairs) c.of-list.ensures (λ u v hu hv. c.loop-u.invariant.1 u (omega arith) v hv),
+  c.loop-u.invariant.0,
+  ranked c.of-list.result c.args.t.now.count (table limit c.args.t.now.pairs) (table limit c.loop-u.ranks.1.0) c.of-list.ensures (λ u v hu hv. c.loop-u.invariant.2 u (omega arith) v hv),
 )

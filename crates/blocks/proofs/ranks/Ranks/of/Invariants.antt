@@ -1,5 +1,6 @@
 -- `blocks::Ranks::of` meets its contract. The invariant: the rows below u have their ranks, and all numbers are below the base. The list has the numbers of
 -- all pairs, so ranks stand as they do.
+use mathlib.Core.Path.{◌≡◌}
 use Prim.Native.Nat.{ℕ, ◌<◌}
 use lib.Dec.{ltb}
 use Rattle.std.specs.List.{count_by}
@@ -12,5 +13,6 @@ use Rattle.blocks.proofs.ranks.Ranks.of.Given as goal
 
 abbrev pub invariant-loop-u : goal.invariant-loop-u
 invariant-loop-u l =
-    ((k : ℕ) → at l.pairs k < base)
-    × ((w : ℕ) → w < l.u → Agree l.t.count (table limit l.pairs w) (λ v. count_by (λ y. ltb y (table limit l.t.pairs w v)) l.list))
+    (l.ranks.0 ≡ l.t.count)
+    × ((k : ℕ) → at l.ranks.1.0 k < base)
+    × ((w : ℕ) → w < l.u → Agree l.t.count (table limit l.ranks.1.0 w) (λ v. count_by (λ y. ltb y (table limit l.t.pairs w v)) l.list))
