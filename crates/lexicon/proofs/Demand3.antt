@@ -52,6 +52,7 @@ module _ (v w : Bool) (s t : List ℕ) (ns ms : List Node) (es fs : List Stored)
       × (f : ℕ → ℕ) × Carries (diagram ns es) (diagram ms fs) f × ((i : ℕ) → i < length ns → f (at p.numbering i) ≡ at q.numbering i)
   unfolding diagram
   nodes_correspond same =
-      (files_s.filing, files_t.filing, files_s.is, files_t.is,
+      let (f, c, to) =
       theorem.places_correspond limit (accepted_diagram v s ns es accepted-s) (accepted_diagram w t ms fs accepted-t) (written_numbers files_s.written) (written_numbers files_t.written)
-      (sym (written_gives files_s.written) ∙ same ∙ written_gives files_t.written))
+      (sym (written_gives files_s.written) ∙ same ∙ written_gives files_t.written) in
+      (files_s.filing, files_t.filing, files_s.is, files_t.is, f, c, to)
