@@ -31,13 +31,12 @@ use Rattle.lexicon_articles.proofs.Carried.{Carried, carried, turned, minimal_ca
 use Rattle.lexicon_articles.proofs.EdgeCount.{edges_carried, edges_answered}
 use Rattle.lexicon_articles.proofs.Names as names
 
-module _ {wish : Bool} {text : List ℕ} {ns : List Node} {es : List Stored} {r : Result Reading CdError} (h : read wish text ≡ Accepted ns es) where
-  edges_of : (a : Answers ns es r) → edge_count a.reading.cd ≡ length (without_loops es)
-  edges_of a = edges_answered a.reading.cd ns es a.cd (accepted_few wish text ns es h) (accepted_tidy wish text ns es h)
+edges_of : (wish : Bool) (text : List ℕ) {ns : List Node} {es : List Stored} {r : Result Reading CdError} → read wish text ≡ Accepted ns es → (a : Answers ns es r) → edge_count a.reading.cd ≡ length (without_loops es)
+edges_of wish text {ns} {es} h a = edges_answered a.reading.cd ns es a.cd (accepted_few wish text ns es h) (accepted_tidy wish text ns es h)
 
-  -- the count of an answered diagram is that of the stored edges
-  pub edges_counted : Reads wish text r → (p : Reading) × (r ≡ Ok p) × (edge_count p.cd ≡ length (without_loops es))
-  edges_counted k = let a = answers h k in (a.reading, a.is, edges_of a)
+-- the count of an answered diagram is that of the stored edges
+pub edges_counted : {wish : Bool} {text : List ℕ} {ns : List Node} {es : List Stored} {r : Result Reading CdError} → read wish text ≡ Accepted ns es → Reads wish text r → (p : Reading) × (r ≡ Ok p) × (edge_count p.cd ≡ length (without_loops es))
+edges_counted {wish} {text} h k = let a = answers h k in (a.reading, a.is, edges_of wish text h a)
 
 -- two wishes, and two texts that are accepted so; two buffers that 12 does not refuse, before and after, whose records are the same
 module _ (v w : Bool) (s t : List ℕ) (ns ms : List Node) (es fs : List Stored) (a a' b b' : List ℕ) (x y : Result Filed CdError)
@@ -81,6 +80,6 @@ module _ (v w : Bool) (s t : List ℕ) (ns ms : List Node) (es fs : List Stored)
       let d = answers accepted-t qt in
       (c.reading, d.reading, c.is, d.is, record {
         mark = marks_alike c d;
-        edges = edges_of accepted-s c ∙ same_edges ∙ sym (edges_of accepted-t d);
+        edges = edges_of v s accepted-s c ∙ same_edges ∙ sym (edges_of w t accepted-t d);
         names = same_names rs gt;
       })
