@@ -1,7 +1,7 @@
 // The filing record: the layout of a diagram under the numbering that makes it smallest, written into a lent buffer.
 #![tactic(auto)]
 
-ghost use Rattle.std.specs.Prelude.{List, ◌∷◌, ◌++◌, ◌≡◌, ◌+◌, ◌*◌, ◌-◌, ◌≤◌, ◌<◌, length, drop, replicate};
+ghost use Rattle.std.specs.Prelude.{List, ◌∷◌, ◌++◌, ◌≡◌, ◌+◌, ◌*◌, ◌-◌, ◌≤◌, ◌<◌, length, take, drop, replicate};
 ghost use Rattle.cd.specs.Diagrams.{Stored, limit, cd_of};
 ghost use Rattle.cd.specs.Minimal.{Decides};
 ghost use Rattle.cd.specs.declared.Node.{Node};
@@ -105,6 +105,15 @@ pub fn no_greater(a: &[u8], b: &[u8]) -> bool
     ensures { Decides (a.now ≼ b.now) result }
 {
     a <= b
+}
+
+// The bytes at place i of records that stand end to end.
+pub fn place(file: &[u8], i: usize) -> &[u8]
+    requires { record_length limit * (i + 1) ≤ length file.now }
+    ensures { result.now ≡ take (record_length limit) (drop (record_length limit * i) file.now) }
+{
+    let at = RECORD * i;
+    &file[at..at + RECORD]
 }
 
 // Whether bytes are the layout under a numbering.
