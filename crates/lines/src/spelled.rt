@@ -1,5 +1,6 @@
 // What the replay programs share: numbers and bytes that a line spells, and answers that show bytes by a digest and doubles by their bits.
-ghost use Rattle.std.specs.Prelude.{◌≤◌, ◌<◌, ◌^◌, length, max};
+ghost use Rattle.std.specs.Prelude.{◌≡◌, ◌≤◌, ◌<◌, ◌^◌, length, max, false, is_nan, to_bits};
+ghost use Rattle.std.specs.Float.{binary64};
 ghost use Rattle.arrayvec.specs.ArrayVec.{Extends};
 ghost use Rattle.io.specs.Digits.{last_digits};
 ghost use Rattle.lines.specs.Written.{HasRoomOf, AddsAtMost};
@@ -84,7 +85,8 @@ pub fn put_digest<const N: usize>(out: &mut ArrayVec<u8, N>, bytes: &[u8])
 // A double's bits, or `nan`.
 pub fn put_double<const N: usize>(out: &mut ArrayVec<u8, N>, v: f64)
     requires { HasRoomOf N 16 out.old }
-    ensures { AddsAtMost 16 out.old out.new }
+    ensures bits { is_nan v ≡ false → Extends out.old (last_digits 16 16 (to_bits binary64 v)) out.new }
+    ensures bound { AddsAtMost 16 out.old out.new }
 {
     if v.is_nan() {
         return crate::put_all(out, b"nan");
