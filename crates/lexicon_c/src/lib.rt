@@ -37,7 +37,7 @@ pub extern "C" fn lexicon_write_record(
 {
     let r = lexicon::write_record(text, wish != 0, out);
     if let Ok(f) = &r {
-        *numbering = f.numbering;
+        numbering.copy_from_slice(&f.numbering);
     }
     lent::tell_result(r.map(|f| (f.count, 0, 0)), answer)
 }
