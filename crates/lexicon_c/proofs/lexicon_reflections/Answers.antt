@@ -20,4 +20,4 @@ returns-in-Ok c =
     lends_same of_reflected (reflections_shown _ _ _ m (c.of.ensures m.fits.square m.fits.held)) (lends_shown _ _ _ _ _ c.show_one.ensures)
 
 pub returns-in-Err : goal.returns-in-Err
-returns-in-Err c = lends_same of_reflected (reflections_refused _ _ c.in-Err.ensures) (lends_refusal _ _ _ _ c.tell.ensures)
+returns-in-Err c = lends_same of_reflected (reflections_refused _ _ c.in-Err.ensures) (lends_refusal _ _ _ _ c.tell_result.ensures)

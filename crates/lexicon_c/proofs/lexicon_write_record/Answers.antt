@@ -19,5 +19,5 @@ returns c =
       filed = c.write_record-r.result;
       files = c.write_record-r.ensures;
       nodes = nodes;
-      tells = tells_mapped _ _ _ c.map.ensures.cases (λ x y p. search rules) c.tell.ensures;
+      tells = tells_mapped _ _ _ c.map.ensures.cases (λ x y p. search rules) c.tell_result.ensures;
     }
