@@ -34,7 +34,7 @@ use Rattle.lent.proofs.Copying.{flat_at}
 use Rattle.lent.proofs.Showing.{nodes_long, numbers_long, names_long, shown_told, shown_returned, shown_at}
 use Rattle.lexicon.specs.Reads.{Reads}
 use Rattle.lexicon.specs.declared.Reading.{Reading}
-use Rattle.lexicon.proofs.Answers.{shown}
+use Rattle.lexicon.proofs.Answers as answers
 use Rattle.lexicon_articles.specs.Articles.{edge_count, name_at, SameNames}
 use Rattle.lexicon_articles.specs.Articles as articles
 use Rattle.lexicon_articles.proofs.EqualRecords as theorem
@@ -54,7 +54,7 @@ module _ {wish : Bool} {text out : List ℕ} {ns : List Node} {es : List Stored}
   cd = reading.cd
 
   held : cd ≡ cd_of ns es
-  held = (shown accepted (subst (Reads wish text) answered reads.reads)).0
+  held = (answers.shown accepted (subst (Reads wish text) answered reads.reads)).0
 
   nodes_full : length cd.nodes ≡ limit
   nodes_full = ap length (nodes_held cd ns es held) ∙ length_padded (place Unringed) limit (map place ns)
