@@ -2,7 +2,6 @@
 use mathlib.Core.Path.{◌≡◌, refl}
 use borrow.Author.Rules.{rules}
 use Rattle.cd.specs.Arrays.{padded}
-use Rattle.cd.specs.Refusals.{number_of}
 use Rattle.lent.specs.Outcomes.{outcome, told, figures}
 use Rattle.lexicon_c.specs.Calls.{replaced}
 use Rattle.lexicon_c.proofs.lexicon_write_record.Goals as goal
