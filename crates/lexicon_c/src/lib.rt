@@ -35,11 +35,13 @@ pub extern "C" fn lexicon_write_record(
 ) -> usize
     ensures { FilesForC (wished wish) text.now out.old out.new numbering.old numbering.new answer.new result }
 {
-    let r = lexicon::write_record(text, wish != 0, out);
-    if let Ok(f) = &r {
-        numbering.copy_from_slice(&f.numbering);
+    match lexicon::write_record(text, wish != 0, out) {
+        Ok(f) => {
+            numbering.copy_from_slice(&f.numbering);
+            lent::tell([0, f.count, 0, 0], answer)
+        }
+        Err(e) => lent::tell_result(Err(e), answer),
     }
-    lent::tell_result(r.map(|f| (f.count, 0, 0)), answer)
 }
 
 #[unsafe(no_mangle)]
