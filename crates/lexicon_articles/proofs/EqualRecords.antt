@@ -77,9 +77,14 @@ module _ (v w : Bool) (s t : List ℕ) (ns ms : List Node) (es fs : List Stored)
       → (c : Reading) × (d : Reading) × (p ≡ Ok c) × (q ≡ Ok d) × SameArticle c r d g
   equal_articles ps rs qt gt =
       let c = answers accepted-s ps in
-      let d = answers accepted-t qt in
-      (c.reading, d.reading, c.is, d.is, record {
-        mark = marks_alike c d;
-        edges = edges_of v s accepted-s c ∙ same_edges ∙ sym (edges_of w t accepted-t d);
-        names = same_names rs gt;
-      })
+      let d = answers accepted-t qt in (
+        c.reading,
+        d.reading,
+        c.is,
+        d.is,
+        record {
+          mark = marks_alike c d;
+          edges = edges_of v s accepted-s c ∙ same_edges ∙ sym (edges_of w t accepted-t d);
+          names = same_names rs gt;
+        },
+      )
