@@ -4,7 +4,7 @@
 ghost use Rattle.std.specs.Prelude.{◌≡◌, ℕ, ◌<◌, ◌≤◌, Float};
 ghost use Rattle.cd.specs.Diagrams.{limit};
 ghost use Rattle.reflections.specs.Reflections.{unit as the_unit, reflection as the_reflection};
-ghost use Rattle.reflections.specs.Shown.{reflections_of};
+ghost use Rattle.reflections.specs.Shown.{matrix_of, reflections_of};
 ghost use Rattle.cox.specs.Squares.{Square, flat, flat_square, dot as the_dot};
 
 use cd::{LIMIT, SQUARE};
@@ -51,17 +51,31 @@ fn reflection(m: &[f64; SQUARE], i: usize, n: usize) -> [f64; SQUARE]
     cox::square(|c, r| unit(c, r) - m[LIMIT * i + r] * factors[c])
 }
 
+// The reflection in the mirror i of n; past the last mirror zeros.
+fn matrix_at(m: &[f64; SQUARE], i: usize, n: usize) -> Matrix
+    requires { (i < limit) × (n ≤ limit) }
+    ensures { (f : Square) → m.now ≡ flat_square limit f → result ≡ matrix_of n f i }
+{
+    Matrix {
+        at: if i < n {
+            reflection(m, i, n)
+        } else {
+            cox::zeros()
+        },
+    }
+}
+
+// (Each matrix is made where it is handed on: an array of zeros in front was filled and copied, and took as long as all the rest for a text of few nodes.)
 pub fn of(m: &[f64; SQUARE], n: usize) -> Reflections
     requires { n ≤ limit }
     ensures { (f : Square) → m.now ≡ flat_square limit f → result ≡ reflections_of n f }
 {
-    // (Filled where it is handed on: an array of its own was filled or copied once more, and took as long as all the rest for a text of few nodes.)
-    let mut all = Reflections {
-        of: [Matrix { at: cox::zeros() }; LIMIT],
+    let made = |i: usize| -> Matrix
+        requires { (i < limit) × (n ≤ limit) }
+        ensures { (f : Square) → m.entry.now ≡ flat_square limit f → result ≡ matrix_of n f i }
+    { matrix_at(m, i, n) };
+    Reflections {
+        of: std::array::from_fn(made),
         count: n,
-    };
-    for i in 0..n {
-        all.of[i].at = reflection(m, i, n);
     }
-    all
 }

@@ -1,22 +1,22 @@
--- `reflections::of` meets its contract; Invariants.antt has the argument.
-use mathlib.Core.Path.{◌≡◌, refl, ap, ◌∙◌}
+-- `reflections::of` meets its contract: each place of the array is made by `matrix_at`.
+use Prim.Native.Nat.{◌<◌, zero-le}
+use mathlib.Core.Path.{◌≡◌, refl, sym, ap, ◌∙◌}
 use native.Mathlib.Omega.{arith}
-use lib.ListN.{set}
-use Rattle.reflections.specs.declared.Reflections.{Reflections}
-use Rattle.reflections.proofs.Matrices.{made, made_none, made_more, made_all}
+use borrow.Author.Rules.{rules}
+use lib.ListN.{length, get_or}
+use lib.Seq.{ext_get_or}
+use Rattle.cd.specs.Diagrams.{limit}
+use Rattle.cox.proofs.Flats.{length_flat, flat_at}
+use Rattle.tables.proofs.FromFn.{from_fn_gives}
+use Rattle.reflections.specs.Shown.{matrix_of, reflections_of}
 use Rattle.reflections.proofs.of.Goals as goal
 
-pub loop-i-init : goal.loop-i-init
-loop-i-init c f e = ap (λ of. record { of = of; count = c.args.n }) (made_none c.args.n f _ c.zeros.ensures)
-
-pub loop-i-preserved : goal.loop-i-preserved
-loop-i-preserved c f e =
-    let i = c.loop-i.i in
-    let n = c.args.n in
-    ap (λ (a : Reflections). record { of = set a.of i (record { at = c.reflection.result }); count = a.count }) (c.loop-i.invariant f e)
-    ∙ ap (λ of. record { of = of; count = n }) (made_more i n f (made i n f) _ (omega arith) (c.reflection.ensures f e) refl)
-
 pub returns : goal.returns
+unfolding reflections_of
 returns c f e =
     let n = c.args.n in
-    c.loop-i.invariant f e ∙ made_all n f _ (ap (λ k. made k n f) (omega arith))
+    let long : length c.from_fn.result ≡ limit = c.from_fn.ensures.items.long in
+    ap (λ of. record { of = of; count = n }) (ext_get_or (matrix_of n f 0) _ _ (long ∙ sym (length_flat limit (matrix_of n f))) (λ i h.
+    let l : i < limit = omega (arith, long) in
+    let made : get_or c.from_fn.result i (matrix_of n f 0) ≡ matrix_of n f i = from_fn_gives _ _ (matrix_of n f) limit (λ j y q k call. (search rules, search rules)) _ 0 limit refl c.from_fn.ensures.items.each i (matrix_of n f 0) zero-le l in
+    made ∙ sym (flat_at limit (matrix_of n f) _ i l)))
