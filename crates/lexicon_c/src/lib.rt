@@ -11,6 +11,7 @@ ghost use Rattle.lexicon_c.specs.Calls.{wished, ReadsForC, FilesForC, ReadsRecor
 
 use cd::{CdError, LIMIT};
 use lent::ANSWER;
+use reflections::Reflections;
 use shelf::Found;
 
 #[unsafe(no_mangle)]
@@ -124,9 +125,13 @@ pub extern "C" fn lexicon_reflections(
 ) -> usize
     ensures { Lends (of_reflected (reflections_of_text (read (wished wish) text.now))) out.old out.new answer.new result }
 {
-    // (Not by geometry::reflections: a Result of reflections, which have 5,840 bytes each, is copied on the stack, of which this call then uses 24 KB in place of 18.)
+    // (Not by geometry::reflections, and filled in place: a Result of reflections, which have 5,840 bytes, is copied on the stack, and so are reflections by value.)
     match geometry::mirrors(text, wish != 0) {
-        Ok(m) => lent::show_one(&reflections::of(&m.at, m.count), out, answer),
+        Ok(m) => {
+            let mut all = Reflections::new();
+            all.fill(&m.at, m.count);
+            lent::show_one(&all, out, answer)
+        }
         Err(e) => lent::tell_result(Err(e), answer),
     }
 }

@@ -4,7 +4,7 @@
 ghost use Rattle.std.specs.Prelude.{◌≡◌, ℕ, ◌<◌, ◌≤◌, Float};
 ghost use Rattle.cd.specs.Diagrams.{limit};
 ghost use Rattle.reflections.specs.Reflections.{unit as the_unit, reflection as the_reflection};
-ghost use Rattle.reflections.specs.Shown.{matrix_of, reflections_of};
+ghost use Rattle.reflections.specs.Shown.{blank, reflections_of};
 ghost use Rattle.cox.specs.Squares.{Square, flat, flat_square, dot as the_dot};
 
 use cd::{LIMIT, SQUARE};
@@ -51,31 +51,34 @@ fn reflection(m: &[f64; SQUARE], i: usize, n: usize) -> [f64; SQUARE]
     cox::square(|c, r| unit(c, r) - m[LIMIT * i + r] * factors[c])
 }
 
-// The reflection in the mirror i of n; past the last mirror zeros.
-fn matrix_at(m: &[f64; SQUARE], i: usize, n: usize) -> Matrix
-    requires { (i < limit) × (n ≤ limit) }
-    ensures { (f : Square) → m.now ≡ flat_square limit f → result ≡ matrix_of n f i }
-{
-    Matrix {
-        at: if i < n {
-            reflection(m, i, n)
-        } else {
-            cox::zeros()
-        },
+impl Reflections {
+    // Of no mirror: zeros.
+    pub fn new() -> Self
+        ensures { (result.count ≡ 0) × (result.of ≡ blank) }
+    {
+        Reflections {
+            of: [Matrix { at: cox::zeros() }; LIMIT],
+            count: 0,
+        }
+    }
+
+    // Those in n mirrors. (In place: made by value they were filled or copied once more, which took as long as all the rest for a text of few nodes.)
+    pub fn fill(&mut self, m: &[f64; SQUARE], n: usize)
+        requires { (n ≤ limit) × (self.old.of ≡ blank) }
+        ensures { (f : Square) → m.now ≡ flat_square limit f → self.new ≡ reflections_of n f }
+    {
+        self.count = n;
+        for i in 0..n {
+            self.of[i].at = reflection(m, i, n);
+        }
     }
 }
 
-// (Each matrix is made where it is handed on: an array of zeros in front was filled and copied, and took as long as all the rest for a text of few nodes.)
 pub fn of(m: &[f64; SQUARE], n: usize) -> Reflections
     requires { n ≤ limit }
     ensures { (f : Square) → m.now ≡ flat_square limit f → result ≡ reflections_of n f }
 {
-    let made = |i: usize| -> Matrix
-        requires { (i < limit) × (n ≤ limit) }
-        ensures { (f : Square) → m.entry.now ≡ flat_square limit f → result ≡ matrix_of n f i }
-    { matrix_at(m, i, n) };
-    Reflections {
-        of: std::array::from_fn(made),
-        count: n,
-    }
+    let mut all = Reflections::new();
+    all.fill(m, n);
+    all
 }
