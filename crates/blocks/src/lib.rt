@@ -1,7 +1,7 @@
 // Ranks of pairs in place of their numbers, and blocks: of a place its pairs with the places before it, the ranks being digits of one number.
 #![tactic(auto)]
 
-ghost use Rattle.std.specs.Prelude.{◌≡◌, ℕ, ◌+◌, ◌*◌, ◌<◌, ◌≤◌, length};
+ghost use Rattle.std.specs.Prelude.{◌≡◌, ℕ, ◌+◌, ◌*◌, ◌<◌, ◌≤◌, length, replicate};
 ghost use Rattle.cd.specs.Diagrams.{limit};
 ghost use Rattle.filing.specs.Numberings.{Numbering, at};
 ghost use Rattle.blocks.specs.Blocks.{Keyed};
@@ -23,18 +23,33 @@ pub struct Trial {
 }
 
 impl Trial {
-    // The blocks of every place.
+    // Nothing is reached yet.
+    pub fn new(nodes: [usize; LIMIT]) -> Self
+        ensures { (result.nodes ≡ nodes) × (result.keys ≡ replicate (limit * limit) 0) }
+    {
+        Trial {
+            nodes,
+            keys: [0; SQUARE],
+        }
+    }
+
+    // The blocks of every place. (In place: made by value they were copied, and a small record was slower.)
+    pub fn grow_all(&mut self, r: &Ranks)
+        requires { Numbering r.now.count (at self.old.nodes) × (self.old.keys ≡ replicate (limit * limit) 0) }
+        ensures { (self.new.nodes ≡ self.old.nodes) × (length self.new.keys ≡ limit * limit) × Keyed limit (table limit r.now.pairs) r.now.count r.now.count (at self.old.nodes) self.new.keys }
+    {
+        for j in 0..r.count {
+            self.grow(r, j);
+        }
+    }
+
+    // The blocks of every place, of a numbering.
     pub fn of(r: &Ranks, nodes: [usize; LIMIT]) -> Self
         requires { Numbering r.now.count (at nodes) }
         ensures { (result.nodes ≡ nodes) × (length result.keys ≡ limit * limit) × Keyed limit (table limit r.now.pairs) r.now.count r.now.count (at nodes) result.keys }
     {
-        let mut trial = Trial {
-            nodes,
-            keys: [0; SQUARE],
-        };
-        for j in 0..r.count {
-            trial.grow(r, j);
-        }
+        let mut trial = Trial::new(nodes);
+        trial.grow_all(r);
         trial
     }
 

@@ -1,5 +1,5 @@
 // Ranks of pairs in place of their numbers.
-ghost use Rattle.std.specs.Prelude.{◌≡◌, ℕ, ◌+◌, ◌*◌, ◌≤◌, ◌<◌, List, [], nat_lt, length, take, count_by};
+ghost use Rattle.std.specs.Prelude.{◌≡◌, ℕ, ◌+◌, ◌*◌, ◌≤◌, ◌<◌, List, [], nat_lt, length, take, count_by, replicate};
 ghost use Rattle.std.specs.List.{Contains};
 ghost use Rattle.cd.specs.Diagrams.{limit};
 ghost use Rattle.filing.specs.Numberings.{at};
@@ -89,17 +89,32 @@ pub struct Ranks {
 }
 
 impl Ranks {
+    // Of no nodes.
+    pub fn new() -> Self
+        ensures { (result.count ≡ 0) × (result.pairs ≡ replicate (limit * limit) 0) }
+    {
+        Ranks {
+            count: 0,
+            pairs: [0; SQUARE],
+        }
+    }
+
+    // The ranks of the pairs of tables. (In place: made by value they were copied, and a small record was slower.)
+    pub fn fill(&mut self, t: &Tables)
+        ensures { (self.new.count ≡ t.now.count) × Ranked t.now.count (table limit t.now.pairs) (table limit self.new.pairs) }
+    {
+        let list = Listed::of(t);
+        self.count = t.count;
+        for u in 0..t.count {
+            list.rank_row(t, u, &mut self.pairs);
+        }
+    }
+
     pub fn of(t: &Tables) -> Self
         ensures { (result.count ≡ t.now.count) × Ranked t.now.count (table limit t.now.pairs) (table limit result.pairs) }
     {
-        let list = Listed::of(t);
-        let mut pairs = [0; SQUARE];
-        for u in 0..t.count {
-            list.rank_row(t, u, &mut pairs);
-        }
-        Ranks {
-            count: t.count,
-            pairs,
-        }
+        let mut ranks = Ranks::new();
+        ranks.fill(t);
+        ranks
     }
 }

@@ -1,6 +1,6 @@
 -- Lists laid out in arrays. `padded` goes by recursion on its list. The rows of a triangle before row n hold n × (n + 1) / 2 places, so the place
--- b × (b + 1) / 2 + a with a ≤ b is place a of row b, which a load or a store reaches past the rows before it. A loop that fills an array has done so to the
--- first k. Assumes nothing.
+-- b × (b + 1) / 2 + a with a ≤ b is place a of row b, which a load or a store reaches past the rows before it. A loop that fills an array, or replaces each of
+-- its elements, has done so to the first k. Assumes nothing.
 use Prim.Native.Nat.{ℕ, zero, suc, ◌+◌, ◌-◌, ◌*◌, ◌/◌, ◌≤◌, ◌<◌}
 use mathlib.Core.List.{List, [], ◌∷◌, ◌++◌, map, map-append}
 use mathlib.Core.Logic.{◌⊎◌, inl, inr, ⊎_elim}
@@ -10,7 +10,7 @@ use native.Mathlib.Nat.{zero-add, sub-zero, suc-add, le_of_suc-le-suc, not-suc-l
 use native.Mathlib.Numerals.{add-one}
 use native.Mathlib.Omega.{arith}
 use borrow.Author.Tests.{lt-ltb, le-ltb}
-use lib.ListN.{length, get_or, take, set, replicate, length-append, length-map, get_or-append, get_or-map, replicate-append-replicate}
+use lib.ListN.{length, get_or, take, drop, set, replicate, length-append, length-map, get_or-append, get_or-map, replicate-append-replicate}
 use lib.Seq.{take_all, take-suc, take-suc-set, get_or-append-add, set-append_left, get_or_at, set_at}
 use Rattle.cd.specs.Arrays.{padded, row, triangle}
 use Rattle.cd.specs.Diagrams.{place_of}
@@ -28,6 +28,26 @@ module _ {A B : Type 0} (f : A → B) (xs : List A) (ys : List B) (k : ℕ) (so_
 
   pub filled_all : length xs ≤ k → length ys ≤ k → ys ≡ map f xs
   filled_all p q = sym (take_all k ys q) ∙ so_far ∙ take_all k (map f xs) (omega (arith, length-map xs f))
+
+-- ---- an array whose elements are replaced from the front, each by f of it
+
+module _ {A : Type 0} (f : A → A) where
+  abbrev pub replaced : ℕ → List A → List A
+  replaced k xs = map f (take k xs) ++ drop k xs
+
+  replaced_suc : (d : A) (k : ℕ) (xs : List A) → k < length xs → set (replaced k xs) k (f (get_or (replaced k xs) k d)) ≡ replaced (suc k) xs
+  replaced_suc d k [] h = absurd (not-suc-le-zero h)
+  replaced_suc d zero (x ∷ xs) h = refl
+  replaced_suc d (suc k) (x ∷ xs) h = rw (replaced_suc d k xs (le_of_suc-le-suc h))
+
+  pub replaced_next : (d : A) (k : ℕ) (xs : List A) → k < length xs → set (replaced k xs) k (f (get_or (replaced k xs) k d)) ≡ replaced (k + 1) xs
+  replaced_next d k xs h = replaced_suc d k xs h ∙ rw (← add-one k)
+
+  pub get_or_replaced : (d : A) (k : ℕ) (xs : List A) (i : ℕ) → i < k → i < length xs → get_or (replaced k xs) i d ≡ f (get_or xs i d)
+  get_or_replaced d k [] i h l = absurd (not-suc-le-zero l)
+  get_or_replaced d zero (x ∷ xs) i h l = absurd (not-suc-le-zero h)
+  get_or_replaced d (suc k) (x ∷ xs) zero h l = refl
+  get_or_replaced d (suc k) (x ∷ xs) (suc i) h l = get_or_replaced d k xs i (le_of_suc-le-suc h) (le_of_suc-le-suc l)
 
 -- ---- padded
 

@@ -6,7 +6,7 @@ use native.Mathlib.Decide.{ℕ_discrete}
 use native.Mathlib.Omega.{arith}
 use borrow.Author.Tests.{ltb-true, eq-eqb, ne_eqb}
 use lib.Dec.{ltb, eqb}
-use Rattle.filing.proofs.Gcd.{lowest_two}
+use Rattle.filing.proofs.Gcd.{lowest_less, lowest_two}
 use Rattle.cd.specs.Edges.{is_edge, is_two, fraction, reduced}
 use Rattle.cd.specs.declared.Edge.{Edge}
 
@@ -25,6 +25,10 @@ module _ (e : Edge) (is : is_edge e.num e.den ≡ true) where
 
   pub den_below : e.den < e.num
   den_below = ltb-true e.den e.num tests.1
+
+  pub reduced_num_positive : 0 < (reduced e).num
+  unfolding reduced
+  reduced_num_positive = omega (arith, lowest_less (fraction e) den_below)
 
 -- "It is two when num = 2×den"
 pub reduced_two : (e : Edge) → is_two (reduced e) ≡ is_two e

@@ -18,7 +18,7 @@ use lib.Ieee.Fits.{down_pos}
 use Rattle.float.specs.Root.{units, halfway, scaled, reaches, last, root_bits, root_of, Between, NearestRoot}
 use Rattle.float.proofs.Units.{halfway_mono}
 use Rattle.float.proofs.Ties.{no_tie}
-use Rattle.float.proofs.Values.{bits_value, bits_positive, finite_bits, fits_lt}
+use Rattle.float.proofs.Values.{bits_value, finite_bits_positive, finite_bits, fits_lt}
 
 -- ---- `last` finds the last pattern that reaches
 
@@ -128,7 +128,7 @@ module _ (m : ℕ) (e : ℤ) (held : T (fits binary64 (fin false (suc m) e))) wh
       (subst (λ (x : ℕ). suc m * up e * 2 ^ 1074 < x) (mul_right_comm (2 ^ 1024) (down e) (2 ^ 1074)) (mul-lt-mul_of_pos_right (fits_lt m e held) (pow_pos 1074))))
 
   some : 0 < n
-  some = bits_positive m e held
+  some = finite_bits_positive m e held
 
   pub of_r : root_of v ≡ of_bits binary64 (root_bits (units n))
   unfolding root_of

@@ -1,20 +1,20 @@
 -- From patterns to values: how many units a double has, and a finite double's pattern. Assumes nothing.
 use mathlib.Core.Path.{◌≡◌, refl, sym, ap, ◌∙◌, subst}
 use mathlib.Core.Logic.{inl, inr}
-use mathlib.Core.Bool.{Bool, false, ◌&&◌, cond}
+use mathlib.Core.Bool.{Bool, true, false, ◌&&◌, cond, true≢false}
 use Prim.Native.Nat.{ℕ, suc, ◌+◌, ◌-◌, ◌*◌, ◌/◌, ◌%◌, ◌^◌, ◌≤◌, ◌<◌}
-use native.Mathlib.Nat.{lt_of_not-le, eq-zero-or-pos, mod-eq_of_lt, mul-one, mul_right_comm, mul-lt-mul_of_pos_right, div-lt_iff_lt-mul}
+use native.Mathlib.Nat.{lt_of_not-le, eq-zero-or-pos, mod-eq_of_lt, mul-one, mul_right_comm, mul-pos, zero-lt-suc, mul-lt-mul_of_pos_right, div-lt_iff_lt-mul}
 use native.Mathlib.Decide.{dec_le}
 use native.Mathlib.Omega.{arith}
-use borrow.Author.Tests.{lt-leb, ne_eqb}
+use borrow.Author.Tests.{lt-ltb, lt-leb, ne_eqb}
 use lib.IntN.{ℤ}
 use lib.Dec.{T, leb, ltb, eqb, ltb→lt}
 use lib.Pow.{pow_pos}
-use lib.Ieee.{Float, nan, inf, fin, binary64, up, down, size, odd, of_fields, of_bits, to_bits, fits}
+use lib.Ieee.{Float, nan, inf, fin, binary64, up, down, size, odd, of_fields, of_bits, to_bits, fits, lt}
 use lib.Ieee.Bits.{of_bits-to_bits}
 use lib.Ieee.Digits.{size-le}
 use lib.Ieee.Exact.{HasValue, odd_sign}
-use lib.Ieee.Fits.{down_pos, kept-lt, and_r}
+use lib.Ieee.Fits.{up_pos, down_pos, kept-lt, and_r}
 use Rattle.float.specs.Root.{units}
 use Rattle.float.proofs.Units.{units_small, units_normal}
 
@@ -93,13 +93,24 @@ finite_bits m e h =
 
 -- ---- a double above zero has a pattern above zero
 
-apart : (m : ℕ) (e : ℤ) → fin false (suc m) e ≡ of_bits binary64 0 → ⊥
-unfolding of_bits
-apart m e h = cc
+zero_not : lt (of_bits binary64 0) (of_bits binary64 0) ≡ false
+unfolding of_bits lt
+zero_not = refl
 
-pub bits_positive : (m : ℕ) (e : ℤ) → T (fits binary64 (fin false (suc m) e)) → 0 < to_bits binary64 (fin false (suc m) e)
-bits_positive m e f =
-    elim (eq-zero-or-pos (to_bits binary64 (fin false (suc m) e))) [
-      | inl z ↦ absurd (apart m e (sym (of_bits-to_bits binary64 (fin false (suc m) e) f) ∙ ap (of_bits binary64) z))
+pub bits_positive : (v : Float) → T (fits binary64 v) → lt (of_bits binary64 0) v ≡ true → 0 < to_bits binary64 v
+bits_positive v f h =
+    elim (eq-zero-or-pos (to_bits binary64 v)) [
+      | inl z ↦
+          let e : v ≡ of_bits binary64 0 = sym (of_bits-to_bits binary64 v f) ∙ ap (of_bits binary64) z in
+          absurd (true≢false (sym h ∙ ap (lt (of_bits binary64 0)) e ∙ zero_not))
       | inr p ↦ p
     ]
+
+pub lt_positive : (m : ℕ) (e : ℤ) → lt (of_bits binary64 0) (fin false (suc m) e) ≡ true
+unfolding of_bits lt
+lt_positive m e =
+    let p : 0 < suc m * up e = mul-pos (zero-lt-suc m) (up_pos e) in
+    lt-ltb (0 * down e) (suc m * up e * 1) (omega arith)
+
+pub finite_bits_positive : (m : ℕ) (e : ℤ) → T (fits binary64 (fin false (suc m) e)) → 0 < to_bits binary64 (fin false (suc m) e)
+finite_bits_positive m e f = bits_positive (fin false (suc m) e) f (lt_positive m e)

@@ -50,6 +50,11 @@ unfolding mirrors_of shown.shown_mirrors
 crowded_shown n (Columns f) e h = cc
 crowded_shown n (normals.Refused i) e h = cc
 
+pub crowded : (x : Mirrors) (i : ℕ) → Err (Crowded i) ≡ mirrors_of x → x ≡ normals.Refused i
+unfolding mirrors_of
+crowded (Columns f) i h = cc
+crowded (normals.Refused j) i h = let z : j ≡ i = cc in rw z
+
 -- which mirrors are shown
 pub record Fits (n : ℕ) (x : Mirrors) (s : Square) : Type 0 where
   pub square : squares.Square
@@ -65,6 +70,15 @@ fits n (normals.Refused i) s h = cc
 -- ---- of a text
 
 module _ (ns : List Node) (es : List Stored) (cox : Cox) (held : cox ≡ cox_of ns es) where
+  -- what the code holds of a diagram's matrix
+  pub matrix_at : cox.at ≡ flat_square limit (matrix es)
+  unfolding cox_of
+  matrix_at = ap (λ (y : Cox). y.at) held
+
+  pub matrix_count : cox.count ≡ length ns
+  unfolding cox_of
+  matrix_count = ap (λ (y : Cox). y.count) held
+
   pub matrix_shown : (x : Reading) → x ≡ Accepted ns es → Ok (record { at = cox.at; count = cox.count }) ≡ shown.matrix_of x
   unfolding cox_of shown.square shown.matrix_of
   matrix_shown x is = rw (is, held)
@@ -95,7 +109,11 @@ normals_refused walls x e is = rw is
 -- ---- families
 
 module _ (c n : ℕ) where
-  few : is_family limit c n ≡ true → n ≤ limit
+  pub family_at : (cox : Cox) → cox ≡ family_of c n → cox.at ≡ flat_square limit (family_matrix c)
+  unfolding family_of
+  family_at cox h = ap (λ (y : Cox). y.at) h
+
+  pub few : is_family limit c n ≡ true → n ≤ limit
   unfolding is_family
   few t = leb-true n limit ((and-eq-true_iff (leb n limit) _).0 t).0
 

@@ -35,7 +35,7 @@ use Rattle.group_search.proofs.Reaching.{walks_lists, nameless_component}
 length_more : (gs : List Group) (g : Group) → length gs + 1 ≡ length (gs ++ (g ∷ []))
 length_more gs g = sym (length-append gs (g ∷ []))
 
-listing_more : (r : Groups) (gs : List Group) (g : Group) → r ≡ listing gs → length gs < limit
+pub listing_more : (r : Groups) (gs : List Group) (g : Group) → r ≡ listing gs → length gs < limit
     → ◌≡◌ {A = Groups} (record { at = set r.at r.count g; count = r.count + 1 }) (listing (gs ++ (g ∷ [])))
 listing_more r gs g e h =
     ap (λ (z : Groups). record { at = set z.at z.count g; count = z.count + 1 }) e

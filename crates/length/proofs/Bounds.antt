@@ -7,7 +7,7 @@ use mathlib.Core.Path.{◌≡◌, refl}
 use native.Mathlib.Nat.{eq-or-lt_of_le}
 use native.Mathlib.Omega.{arith}
 use borrow.Author.Tests.{lt-ltb}
-use Rattle.std.specs.Prelude.{Option, Some, None}
+use Rattle.std.specs.Prelude.{Result, Ok, Err}
 use Rattle.float.specs.Decimal.{decimal_of}
 use Rattle.length.specs.Literals.{power, judged}
 use Rattle.length.specs.Kept.{kept}
@@ -23,10 +23,10 @@ exponent_kept w m e f minus k =
     (λ h. simp (power_beyond m e f (omega arith) k, power_beyond m (min e 1000) f (omega arith) k))
     (eq-or-lt_of_le small)
 
-pub judged_kept : (minus : Bool) (n w f : ℕ) (x : Option Exponent) → f ≤ n → (n ≤ 15 → w < 10 ^ 15) → judged minus n (min w (10 ^ 15)) f (kept x) ≡ judged minus n w f x
+pub judged_kept : (minus : Bool) (n w f : ℕ) (x : Result Exponent Exponent) → f ≤ n → (n ≤ 15 → w < 10 ^ 15) → judged minus n (min w (10 ^ 15)) f (kept x) ≡ judged minus n w f x
 unfolding judged kept
-judged_kept minus n w f None h b = refl
-judged_kept minus n w f (Some x) h b =
+judged_kept minus n w f (Err x) h b = refl
+judged_kept minus n w f (Ok x) h b =
     let few : min n 15 ≤ n = omega arith in
     ⊎_elim
     (λ (e : min n 15 ≡ n). let k : f ≤ 15 = omega arith in let small : min w (10 ^ 15) ≡ w = omega (arith, b (omega arith)) in rw (small, exponent_kept))

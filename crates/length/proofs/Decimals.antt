@@ -6,7 +6,7 @@ use mathlib.Core.Path.{◌≡◌, refl, sym, ap, ◌∙◌}
 use native.Mathlib.Omega.{arith}
 use lib.ListN.{length, get_or, drop, drop_of_length-le, length-append}
 use borrow.Author.Tests.{eq-eqb, ne_eqb}
-use Rattle.std.specs.Prelude.{Option}
+use Rattle.std.specs.Prelude.{Result}
 use Rattle.length.specs.Literals.{Run, digits, number, fraction, exponent, judged, decimal}
 use Rattle.length.specs.Kept.{Took, kept}
 use Rattle.length.specs.declared.Digits.{Digits}
@@ -31,14 +31,14 @@ module _ (t : List ℕ) (i : ℕ) where
   fraction_at_end h = rw (drop_of_length-le t h)
 
 -- b being the digits after the point: the number is judged by what is kept of it
-decimal_of_kept : (minus : Bool) (s : List ℕ) (b : Run) (n w f : ℕ) (x : Option Exponent) → fraction (digits s).rest ≡ b → n ≡ length ((digits s).front ++ b.front) → w ≡ min (number 0 ((digits s).front ++ b.front)) (10 ^ 15) → f ≡ length b.front → x ≡ kept (exponent b.rest) → judged minus n w f x ≡ decimal minus s
+decimal_of_kept : (minus : Bool) (s : List ℕ) (b : Run) (n w f : ℕ) (x : Result Exponent Exponent) → fraction (digits s).rest ≡ b → n ≡ length ((digits s).front ++ b.front) → w ≡ min (number 0 ((digits s).front ++ b.front)) (10 ^ 15) → f ≡ length b.front → x ≡ kept (exponent b.rest) → judged minus n w f x ≡ decimal minus s
 unfolding decimal
 decimal_of_kept minus s b n w f x eb en ew ef ex =
     let ds = (digits s).front ++ b.front in
     rw (eb, en, ew, ef, ex)
     (judged_kept minus (length ds) (number 0 ds) (length b.front) (exponent b.rest) (rw length-append (omega arith)) (rw eb at (fifteen_digits s)))
 
-module _ (minus : Bool) (t : List ℕ) (at : ℕ) (a : Digits) (k : Took t at 0 (10 ^ 15) a) (x : Option Exponent) where
+module _ (minus : Bool) (t : List ℕ) (at : ℕ) (a : Digits) (k : Took t at 0 (10 ^ 15) a) (x : Result Exponent Exponent) where
   pub decimal_plain : fraction (drop a.next t) ≡ record { front = []; rest = drop a.next t } → x ≡ kept (exponent (drop a.next t)) → judged minus (a.next - at) a.value 0 x ≡ decimal minus (drop at t)
   decimal_plain e q =
       decimal_of_kept minus (drop at t) (record { front = []; rest = drop a.next t }) _ _ 0 x (ap fraction (sym k.rest) ∙ e)

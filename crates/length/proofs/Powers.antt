@@ -1,5 +1,5 @@
--- The power of ten by its size: the size of a sum is at most that of its parts and one more. So an exponent of 1000 is out of range
--- whatever stands after the point. Assumes nothing.
+-- The power of ten by its size: the size of a sum is at most that of its parts and one more. So a difference of small numbers fits an i64, and an exponent of
+-- 1000 is out of range whatever stands after the point. Assumes nothing.
 use Prim.Native.Nat.{ℕ, zero, suc, ◌+◌, ◌-◌, ◌≤◌, ◌<◌}
 use mathlib.Core.Bool.{Bool, true, false, cond}
 use mathlib.Core.Path.{◌≡◌}
@@ -8,6 +8,9 @@ use lib.Dec.{ltb}
 use lib.IntN.{ℤ, pos, negsuc, neg_ℤ, ◌+ℤ◌, ◌-ℤ◌, -ℤ-+ℤ_cancel}
 use lib.Signed.{mag}
 use borrow.Author.Tests.{lt-leb}
+use mir.Facts.{to_z-of_z}
+use mir.Syntax.{w64}
+use mir.Val.{SFits, to_z}
 use Rattle.float.specs.Decimal.{in_range}
 use Rattle.length.specs.Literals.{power}
 
@@ -26,8 +29,18 @@ size_minus : (n : ℕ) → (mag (neg_ℤ (pos n)) ≤ n) × (n ≤ mag (neg_ℤ 
 size_minus zero = omega arith
 size_minus (suc n) = omega arith
 
-difference_at_least : (a : ℤ) (n : ℕ) → mag a ≤ mag (a -ℤ pos n) + n + 1
-difference_at_least a n = rw (-ℤ-+ℤ_cancel a (pos n)) at (size_sum (a -ℤ pos n) (pos n))
+module _ (a : ℤ) (n : ℕ) where
+  pub difference_at_most : mag (a -ℤ pos n) ≤ mag a + n + 1
+  difference_at_most = omega (arith, size_minus n, size_sum a (neg_ℤ (pos n)))
+
+  difference_at_least : mag a ≤ mag (a -ℤ pos n) + n + 1
+  difference_at_least = rw (-ℤ-+ℤ_cancel a (pos n)) at (size_sum (a -ℤ pos n) (pos n))
+
+  pub difference_fits : mag a ≤ 2000 → n ≤ 1000 → SFits w64 (a -ℤ pos n)
+  difference_fits h k = let s = difference_at_most in record { sfits = omega arith }
+
+pub small_reads : (n : ℕ) → n ≤ 1000 → to_z w64 n ≡ pos n
+small_reads n h = to_z-of_z {w = w64} {z = pos n} (record { sfits = omega arith })
 
 large_beyond : (p : ℤ) → 22 < mag p → in_range p ≡ false
 unfolding in_range

@@ -1,5 +1,5 @@
 -- What the code keeps of a run of digits: a number up to a bound beyond which the port takes none, and places in place of lists.
-use Rattle.std.specs.Prelude.{ℕ, ◌+◌, ◌≤◌, min, List, ◌≡◌, Option, Some, None, length, drop}
+use Rattle.std.specs.Prelude.{ℕ, ◌+◌, ◌≤◌, min, List, ◌≡◌, Result, Ok, Err, length, drop}
 use Rattle.length.specs.Literals.{digits, number, sign}
 use Rattle.length.specs.declared.Digits.{Digits}
 use Rattle.length.specs.declared.Exponent.{Exponent}
@@ -18,7 +18,10 @@ pub record Signs (t : List ℕ) (at : ℕ) (r : Sign) : Type 0 where
   pub from : at ≤ r.next
   pub inside : r.next ≤ length t
 
--- an exponent, its number up to 1000
-unfoldable pub kept : Option Exponent → Option Exponent
-kept None = None
-kept (Some x) = Some (record { minus = x.minus; value = min x.value 1000; count = x.count })
+-- an exponent, or what is none, its number up to 1000
+abbrev pub capped : Exponent → Exponent
+capped x = record { minus = x.minus; value = min x.value 1000; count = x.count }
+
+unfoldable pub kept : Result Exponent Exponent → Result Exponent Exponent
+kept (Ok x) = Ok (capped x)
+kept (Err x) = Err (capped x)

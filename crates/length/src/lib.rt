@@ -1,7 +1,7 @@
 // A length in parentheses: the bytes between them. (parse.rs of miratope-core calls Rust's own f64 parsing here.)
 #![tactic(auto)]
 
-ghost use Rattle.std.specs.Prelude.{false, ◌≡◌, ◌<◌, ◌≤◌, ◌^◌, length, drop, IfSome};
+ghost use Rattle.std.specs.Prelude.{false, ◌≡◌, ◌<◌, ◌≤◌, ◌^◌, length, drop, IfOk};
 ghost use Rattle.std.specs.Float.{inf};
 ghost use Rattle.float.specs.Decimal.{signed};
 ghost use Rattle.length.specs.Literals.{power, judged, exponent, decimal, fold, is_word, unsigned, literal_of};
@@ -86,9 +86,16 @@ pub struct Exponent {
     pub count: usize,
 }
 
-// The exponent that follows a number's digits, if one or nothing follows them.
+// What is read where no exponent begins. ("A missing exponent is 0.")
+const NO_EXPONENT: Exponent = Exponent {
+    minus: false,
+    value: 0,
+    count: 0,
+};
+
+// The exponent that follows a number's digits, if one or nothing follows them; else the sign, the number and the count of what does follow.
 #[tactic(auto, using(crate::proofs::Exponents::exponent_laws))]
-pub fn take_exponent(t: &[u8], at: usize) -> Option<Exponent>
+pub fn take_exponent(t: &[u8], at: usize) -> Result<Exponent, Exponent>
     requires { at ≤ length t.now }
     ensures { result ≡ kept (exponent (drop at t.now)) }
 {
@@ -96,22 +103,19 @@ pub fn take_exponent(t: &[u8], at: usize) -> Option<Exponent>
         Some(b'e' | b'E') => {
             let g = take_sign(t, at + 1);
             let d = take_digits(t, g.next, 0, 1000);
+            let x = Exponent {
+                minus: g.minus,
+                value: d.value,
+                count: d.next - g.next,
+            };
             if g.next < d.next && d.next == t.len() {
-                Some(Exponent {
-                    minus: g.minus,
-                    value: d.value,
-                    count: d.next - g.next,
-                })
+                Ok(x)
             } else {
-                None
+                Err(x)
             }
         }
-        Some(_) => None,
-        None => Some(Exponent {
-            minus: false,
-            value: 0,
-            count: 0,
-        }),
+        Some(_) => Err(NO_EXPONENT),
+        None => Ok(NO_EXPONENT),
     }
 }
 
@@ -126,13 +130,13 @@ pub fn power(minus: bool, e: u64, f: usize) -> i64
     if minus { -x - y } else { x - y }
 }
 
-// The number whose digits are w, n of them, f after the point, with an exponent, if that is one.
+// The number whose digits are w, n of them, f after the point, with what stands for an exponent, if that is one.
 #[tactic(auto, unfolding(crate::specs::Literals::judged, crate::specs::Literals::length_of))]
-pub fn judged(w: u64, n: usize, f: usize, x: Option<Exponent>, minus: bool) -> Length
-    requires { (w ≤ 2 ^ 53) × (f ≤ n) × IfSome x (λ x. x.value ≤ 1000) }
+pub fn judged(w: u64, n: usize, f: usize, x: Result<Exponent, Exponent>, minus: bool) -> Length
+    requires { (w ≤ 2 ^ 53) × (f ≤ n) × IfOk x (λ x. x.value ≤ 1000) }
     ensures { result ≡ judged minus n w f x }
 {
-    let Some(x) = x else {
+    let Ok(x) = x else {
         return Length::NoNumber;
     };
     if n == 0 {

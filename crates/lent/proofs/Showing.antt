@@ -49,6 +49,10 @@ module _ {B : Type 0} (fs : List ℕ) (xs out : List B) where
   unfolding fitted lent told figures
   fit_shown out' a b c l s t = rw (le-ltb (length out) (length xs) l) (s, t)
 
+  -- and what a call then tells
+  pub lends_fit : (out' : List B) (r : Result (ℕ × ℕ × ℕ) CdError) {answer' : List ℕ} {n : ℕ} → Fit out' r → (answer' ≡ figures r) × (n ≡ get_or answer' 0 0) → Lends (Shows fs xs) out out' answer' n
+  lends_fit out' r f t = record { slice = f.0; answer = t.0 ∙ f.1; returned = t.1 }
+
 module _ {A B : Type 0} (f : A → List ℕ) (g : A → List B) (out : List B) {answer' : List ℕ} {n : ℕ} where
   pub lends_shown : (x : A) (out' : List B) → Lends (Shows (f x) (g x)) out out' answer' n → Lends (outcome f g (Ok x)) out out' answer' n
   unfolding outcome
@@ -57,6 +61,12 @@ module _ {A B : Type 0} (f : A → List ℕ) (g : A → List B) (out : List B) {
   pub lends_refusal : (e : CdError) → (answer' ≡ figures (Err e)) × (n ≡ get_or answer' 0 0) → Lends (outcome f g (Err e)) out out answer' n
   unfolding outcome fitted lent told figures
   lends_refusal e t = record { slice = refl; answer = t.0; returned = t.1 }
+
+  -- what is told of a refusal does not matter
+  pub lends_told : (r : Result A CdError) (fs : List ℕ) (out' : List B) → ((x : A) → r ≡ Ok x → fs ≡ f x) → Lends (outcome (λ x. fs) g r) out out' answer' n → Lends (outcome f g r) out out' answer' n
+  unfolding outcome
+  lends_told (Ok x) fs out' h l = subst (λ us. Lends (Shows us (g x)) out out' answer' n) (h x refl) l
+  lends_told (Err e) fs out' h l = l
 
 -- what a call with room enough has told, returned and shown
 module _ {A : Type 0} {o : Outcome A} {fs : List ℕ} {xs out out' : List A} {answer' : List ℕ} {r : ℕ} (l : Lends o out out' answer' r) (is : o ≡ Shows fs xs) (room : length xs ≤ length out) where

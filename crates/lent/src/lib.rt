@@ -31,16 +31,24 @@ const REFLECTIONS: usize = SQUARE * LIMIT;
 // The fields of an answer, which stand behind its first number, 0.
 pub type Fields = (usize, usize, usize);
 
-// Stores an answer, or a refusal's number and fields; the first number is what the call returns.
-#[tactic(auto, unfolding(crate::specs::Outcomes::figures))]
-pub fn tell(f: Result<Fields, CdError>, answer: &mut [usize; ANSWER]) -> usize
-    ensures { (answer.new ≡ figures f) × (result ≡ get_or answer.new 0 0) }
+// Stores the answer; its first number is what the call returns.
+pub fn tell(f: [usize; ANSWER], answer: &mut [usize; ANSWER]) -> usize
+    ensures { (answer.new ≡ f) × (result ≡ get_or answer.new 0 0) }
 {
-    *answer = match f {
+    *answer = f;
+    answer[0]
+}
+
+// Tells 0 and an answer's fields, or a refusal's number and fields.
+#[tactic(auto, unfolding(crate::specs::Outcomes::figures))]
+pub fn tell_result(r: Result<Fields, CdError>, answer: &mut [usize; ANSWER]) -> usize
+    ensures { (answer.new ≡ figures r) × (result ≡ get_or answer.new 0 0) }
+{
+    let f = match r {
         Ok((a, b, c)) => [0, a, b, c],
         Err(e) => cd::figures(e).at,
     };
-    answer[0]
+    tell(f, answer)
 }
 
 // ---- what a call shows
@@ -336,23 +344,39 @@ impl Told for Reflections {
     }
 }
 
-// What is shown, if the slice has room for it, and what is to be told.
-fn fit<T: Told>(x: &T, out: &mut [T::Item]) -> Result<Fields, CdError>
+// What is shown, if the slice has room for it, and what is to be told: f.
+fn fit<T: Shown>(x: &T, f: Fields, out: &mut [T::Item]) -> Result<Fields, CdError>
     requires { T.can_show x.now }
-    ensures { (out.new ≡ lent (fitted (length out.old) (Shows (T.told x.now) (T.shown x.now))) out.old) × (figures result ≡ told (fitted (length out.old) (Shows (T.told x.now) (T.shown x.now)))) }
+    ensures { (fs : List ℕ) → 0 ∷ f.0 ∷ f.1 ∷ f.2 ∷ [] ≡ padded 0 4 (0 ∷ fs) → (out.new ≡ lent (fitted (length out.old) (Shows fs (T.shown x.now))) out.old) × (figures result ≡ told (fitted (length out.old) (Shows fs (T.shown x.now)))) }
 {
     if out.len() < x.length() {
         return Err(CdError::ShortBuffer);
     }
     x.put(out);
-    Ok(x.told())
+    Ok(f)
 }
 
 pub fn show_one<T: Told>(x: &T, out: &mut [T::Item], answer: &mut [usize; ANSWER]) -> usize
     requires { T.can_show x.now }
     ensures { Lends (Shows (T.told x.now) (T.shown x.now)) out.old out.new answer.new result }
 {
-    tell(fit(x, out), answer)
+    tell_result(fit(x, x.told(), out), answer)
+}
+
+// An answer of which f is told.
+pub fn show_as<T: Shown>(
+    r: &Result<T, CdError>,
+    f: Fields,
+    out: &mut [T::Item],
+    answer: &mut [usize; ANSWER],
+) -> usize
+    requires { (x : T) → r.now ≡ Ok x → T.can_show x }
+    ensures { (fs : List ℕ) → 0 ∷ f.0 ∷ f.1 ∷ f.2 ∷ [] ≡ padded 0 4 (0 ∷ fs) → Lends (outcome (λ x. fs) T.shown r.now) out.old out.new answer.new result }
+{
+    match r {
+        Ok(x) => tell_result(fit(x, f, out), answer),
+        Err(e) => tell_result(Err(*e), answer),
+    }
 }
 
 pub fn show<T: Told>(
@@ -363,8 +387,9 @@ pub fn show<T: Told>(
     requires { (x : T) → r.now ≡ Ok x → T.can_show x }
     ensures { Lends (outcome T.told T.shown r.now) out.old out.new answer.new result }
 {
-    match r {
-        Ok(x) => show_one(x, out, answer),
-        Err(e) => tell(Err(*e), answer),
-    }
+    let f = match r {
+        Ok(x) => x.told(),
+        Err(_) => (0, 0, 0),
+    };
+    show_as(r, f, out, answer)
 }

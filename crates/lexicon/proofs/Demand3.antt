@@ -16,13 +16,12 @@ use Rattle.filing.specs.Numberings.{at}
 use Rattle.filing.specs.Records.{record_length}
 use Rattle.filing.proofs.Filing as theorem
 use Rattle.parse.specs.Reading.{Accepted, read}
-use Rattle.records.specs.Written.{Written}
 use Rattle.records.proofs.Written.{written_numbers, written_gives}
 use Rattle.tables.specs.Diagrams.{diagram}
 use Rattle.lexicon.specs.Files.{Files}
 use Rattle.lexicon.specs.declared.Filed.{Filed}
 use Rattle.lexicon.proofs.Fileable.{accepted_diagram}
-use Rattle.lexicon.proofs.OneAnswer.{Accepts, on_accepted, written_as}
+use Rattle.lexicon.proofs.OneAnswer.{Accepts, on_accepted}
 
 -- two wishes, and two texts that are accepted so; two buffers that 12 does not refuse, before and after; and two answers that the promise allows
 module _ (v w : Bool) (s t : List ℕ) (ns ms : List Node) (es fs : List Stored) (a a' b b' : List ℕ) (x y : Result Filed CdError)
@@ -46,13 +45,14 @@ module _ (v w : Bool) (s t : List ℕ) (ns ms : List Node) (es fs : List Stored)
   pub demand_3 : (take (record_length limit) a' ≡ take (record_length limit) b') ↔ Iso (diagram ns es) (diagram ms fs)
   demand_3 = (no_false_match, no_missed_match)
 
-  -- which node is which: some renumbering that carries one diagram onto the other sends the node that one numbering has at a place to the node that the
-  -- other has there
-  pub nodes_correspond : {p q : Filed} → x ≡ Ok p → y ≡ Ok q → take (record_length limit) a' ≡ take (record_length limit) b'
-      → (f : ℕ → ℕ) × Carries (diagram ns es) (diagram ms fs) f × ((i : ℕ) → i < length ns → f (at p.numbering i) ≡ at q.numbering i)
+  -- which node is which: both texts are filed, and some renumbering that carries one diagram onto the other sends the node that one numbering has at a place to
+  -- the node that the other has there
+  pub nodes_correspond : take (record_length limit) a' ≡ take (record_length limit) b'
+      → (p : Filed) × (q : Filed) × (x ≡ Ok p) × (y ≡ Ok q)
+      × (f : ℕ → ℕ) × Carries (diagram ns es) (diagram ms fs) f × ((i : ℕ) → i < length ns → f (at p.numbering i) ≡ at q.numbering i)
   unfolding diagram
-  nodes_correspond {p} {q} is-p is-q same =
-      let wrote-p : Written limit (diagram ns es) a a' p.numbering = written_as files_s is-p in
-      let wrote-q : Written limit (diagram ms fs) b b' q.numbering = written_as files_t is-q in
-      theorem.places_correspond limit (accepted_diagram v s ns es accepted-s) (accepted_diagram w t ms fs accepted-t) (written_numbers wrote-p) (written_numbers wrote-q)
-      (sym (written_gives wrote-p) ∙ same ∙ written_gives wrote-q)
+  nodes_correspond same =
+      let (f, c, to) =
+      theorem.places_correspond limit (accepted_diagram v s ns es accepted-s) (accepted_diagram w t ms fs accepted-t) (written_numbers files_s.written) (written_numbers files_t.written)
+      (sym (written_gives files_s.written) ∙ same ∙ written_gives files_t.written) in
+      (files_s.filing, files_t.filing, files_s.is, files_t.is, f, c, to)

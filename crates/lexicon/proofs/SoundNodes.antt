@@ -1,6 +1,6 @@
 -- A node that was read holds a double and no nan, without the wish no infinity. A letter's is one of the table's, and antt computes the test of each. A
 -- literal's value is an infinity, or is rounded once, since its digits are a double exactly, and is finite. Assumes nothing.
-use Rattle.std.specs.Prelude.{Option, Some, None, Ok, Err}
+use Rattle.std.specs.Prelude.{Option, Some, None, Result, Ok, Err}
 use Rattle.std.specs.Option.{IfSome}
 use Prim.Native.Nat.{ℕ, suc, ◌+◌, ◌-◌, ◌^◌, ◌≤◌, ◌<◌}
 use Prim.Native.Char.{code}
@@ -131,10 +131,10 @@ module _ (wish : Bool) where
       (λ r. value (signed_length minus (Decimal.value w p) (value_fits w p) (value_finite w p h r)))
       range
 
-  judged_sound : (minus : Bool) (n w f : ℕ) (x : Option Exponent) → (n ≤ 15 → w < 10 ^ 15) → SoundLength wish (judged minus n w f x)
+  judged_sound : (minus : Bool) (n w f : ℕ) (x : Result Exponent Exponent) → (n ≤ 15 → w < 10 ^ 15) → SoundLength wish (judged minus n w f x)
   unfolding judged
-  judged_sound minus n w f None h = no_number
-  judged_sound minus n w f (Some x) h = picked (SoundLength wish) (eqb n 0) no_number (counted (ltb 15 n) refl)
+  judged_sound minus n w f (Err x) h = no_number
+  judged_sound minus n w f (Ok x) h = picked (SoundLength wish) (eqb n 0) no_number (counted (ltb 15 n) refl)
     where
       counted : (t : Bool) → ltb 15 n ≡ t → SoundLength wish (pick (t || ltb 3 x.count) Range (length_of (decimal_of w (power x.minus x.value f) minus)))
       counted true e = range

@@ -17,7 +17,7 @@ use Rattle.lexicon.specs.Files.{Files}
 use Rattle.lexicon.specs.Reads.{Reads}
 use Rattle.lexicon.specs.declared.Filed.{Filed}
 use Rattle.lexicon.specs.declared.Reading.{Reading}
-use Rattle.lexicon.proofs.Answers.{shown}
+use Rattle.lexicon.proofs.Answers.{Answers, answers}
 use Rattle.lexicon.proofs.Demand3.{no_false_match}
 use Rattle.lexicon.proofs.Fileable.{accepted_diagram, accepted_kept, accepted_tidy}
 use Rattle.lexicon.proofs.Marks.{marked_once}
@@ -31,9 +31,12 @@ use Rattle.lexicon_articles.proofs.Carried.{Carried, carried, turned, minimal_ca
 use Rattle.lexicon_articles.proofs.EdgeCount.{edges_carried, edges_answered}
 use Rattle.lexicon_articles.proofs.Names as names
 
+edges_of : (wish : Bool) (text : List ℕ) {ns : List Node} {es : List Stored} {r : Result Reading CdError} → read wish text ≡ Accepted ns es → (a : Answers ns es r) → edge_count a.reading.cd ≡ length (without_loops es)
+edges_of wish text {ns} {es} h a = edges_answered a.reading.cd ns es a.cd (accepted_few wish text ns es h) (accepted_tidy wish text ns es h)
+
 -- the count of an answered diagram is that of the stored edges
-pub edges_counted : {wish : Bool} {text : List ℕ} {ns : List Node} {es : List Stored} {p : Reading} → read wish text ≡ Accepted ns es → Reads wish text (Ok p) → edge_count p.cd ≡ length (without_loops es)
-edges_counted {wish} {text} {ns} {es} {p} h k = edges_answered p.cd ns es (shown h k).0 (accepted_few wish text ns es h) (accepted_tidy wish text ns es h)
+pub edges_counted : {wish : Bool} {text : List ℕ} {ns : List Node} {es : List Stored} {r : Result Reading CdError} → read wish text ≡ Accepted ns es → Reads wish text r → (p : Reading) × (r ≡ Ok p) × (edge_count p.cd ≡ length (without_loops es))
+edges_counted {wish} {text} h k = let a = answers h k in (a.reading, a.is, edges_of wish text h a)
 
 -- two wishes, and two texts that are accepted so; two buffers that 12 does not refuse, before and after, whose records are the same
 module _ (v w : Bool) (s t : List ℕ) (ns ms : List Node) (es fs : List Stored) (a a' b b' : List ℕ) (x y : Result Filed CdError)
@@ -46,10 +49,17 @@ module _ (v w : Bool) (s t : List ℕ) (ns ms : List Node) (es fs : List Stored)
       let (f, c) = no_false_match v w s t ns ms es fs a a' b b' x y accepted-s accepted-t long-a long-b files-s files-t equal in
       carried ns ms es fs f (accepted_kept v s ns es accepted-s) (accepted_kept w t ms fs accepted-t) (accepted_tidy v s ns es accepted-s) (accepted_tidy w t ms fs accepted-t) c
 
+  marks_alike : {p q : Result Reading CdError} (c : Answers ns es p) (d : Answers ms fs q) → c.reading.minimal ≡ d.reading.minimal
+  marks_alike c d =
+      let carried = decides_same (minimal_carried diagrams_carried) (minimal_carried (turned diagrams_carried)) c.mark in
+      marked_once (Accepted ms fs) c.reading.minimal d.reading.minimal carried d.mark
+
   -- "the same minimal mark"
-  pub same_mark : {p q : Reading} → Reads v s (Ok p) → Reads w t (Ok q) → p.minimal ≡ q.minimal
-  same_mark {p} {q} rs rt =
-      marked_once (Accepted ms fs) p.minimal q.minimal (decides_same (minimal_carried diagrams_carried) (minimal_carried (turned diagrams_carried)) (shown accepted-s rs).1) (shown accepted-t rt).1
+  pub same_mark : {p q : Result Reading CdError} → Reads v s p → Reads w t q → (c : Reading) × (d : Reading) × (p ≡ Ok c) × (q ≡ Ok d) × (c.minimal ≡ d.minimal)
+  same_mark ps qt =
+      let c = answers accepted-s ps in
+      let d = answers accepted-t qt in
+      (c.reading, d.reading, c.is, d.is, marks_alike c d)
 
   -- "the same number of stored edges between different nodes"
   pub same_edges : length (without_loops es) ≡ length (without_loops fs)
@@ -62,10 +72,19 @@ module _ (v w : Bool) (s t : List ℕ) (ns ms : List Node) (es fs : List Stored)
       names.same_names diagrams_carried (accepted_few v s ns es accepted-s) (accepted_few w t ms fs accepted-t)
       (λ i j h k ne. ((accepted_diagram w t ms fs accepted-t).edges i j h k ne).den_pos) (told_of rs accepted-s) (told_of rt accepted-t)
 
-  -- EQUAL RECORDS, EQUAL ARTICLES
-  pub equal_articles : {p q : Reading} {r g : Result Groups CdError} → Reads v s (Ok p) → NamesText v s r → Reads w t (Ok q) → NamesText w t g → SameArticle p r q g
-  equal_articles ps rs qt gt = record {
-    mark = same_mark ps qt;
-    edges = edges_counted accepted-s ps ∙ same_edges ∙ sym (edges_counted accepted-t qt);
-    names = same_names rs gt;
-  }
+  -- EQUAL RECORDS, EQUAL ARTICLES: whatever is answered is a reading of each text, and shows the same of both
+  pub equal_articles : {p q : Result Reading CdError} {r g : Result Groups CdError} → Reads v s p → NamesText v s r → Reads w t q → NamesText w t g
+      → (c : Reading) × (d : Reading) × (p ≡ Ok c) × (q ≡ Ok d) × SameArticle c r d g
+  equal_articles ps rs qt gt =
+      let c = answers accepted-s ps in
+      let d = answers accepted-t qt in (
+        c.reading,
+        d.reading,
+        c.is,
+        d.is,
+        record {
+          mark = marks_alike c d;
+          edges = edges_of v s accepted-s c ∙ same_edges ∙ sym (edges_of w t accepted-t d);
+          names = same_names rs gt;
+        },
+      )

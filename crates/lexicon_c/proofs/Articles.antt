@@ -12,7 +12,7 @@ use lib.ListN.{length, get_or, take}
 use lib.Seq.{get_or-append-add, get_or-take, length-take-le}
 use Rattle.float.specs.Pick.{pick}
 use Rattle.cd.specs.Arrays.{padded}
-use Rattle.cd.specs.Diagrams.{Stored, none, between, limit, pair_limit, place, place_of}
+use Rattle.cd.specs.Diagrams.{Stored, none, between, limit, pair_limit, place, place_of, cd_of}
 use Rattle.cd.specs.Refusals.{number_of}
 use Rattle.cd.specs.declared.Cd.{Cd}
 use Rattle.cd.specs.declared.CdError.TheVariants.{NoName}
@@ -34,7 +34,7 @@ use Rattle.lent.proofs.Copying.{flat_at}
 use Rattle.lent.proofs.Showing.{nodes_long, numbers_long, names_long, shown_told, shown_returned, shown_at}
 use Rattle.lexicon.specs.Reads.{Reads}
 use Rattle.lexicon.specs.declared.Reading.{Reading}
-use Rattle.lexicon.proofs.Answers.{Answers, answers}
+use Rattle.lexicon.proofs.Answers as answers
 use Rattle.lexicon_articles.specs.Articles.{edge_count, name_at, SameNames}
 use Rattle.lexicon_articles.specs.Articles as articles
 use Rattle.lexicon_articles.proofs.EqualRecords as theorem
@@ -49,28 +49,25 @@ use Rattle.lexicon_c.proofs.Demand3.{returned_0}
 -- ---- what `lexicon_read` tells and shows of an accepted text
 
 module _ {wish : Bool} {text out : List ℕ} {ns : List Node} {es : List Stored} (c : Called) (accepted : read wish text ≡ Accepted ns es)
-    (reads : ReadsForC wish text out c.out c.answer c.returned) (room : diagram_length ≤ length out) where
-  abbrev answered : Answers ns es reads.reading
-  answered = answers accepted reads.reads
-
-  abbrev reading : Reading
-  reading = answered.reading
-
+    (reads : ReadsForC wish text out c.out c.answer c.returned) (room : diagram_length ≤ length out) {reading : Reading} (answered : reads.reading ≡ Ok reading) where
   abbrev cd : Cd
   cd = reading.cd
 
+  held : cd ≡ cd_of ns es
+  held = (answers.shown accepted (subst (Reads wish text) answered reads.reads)).0
+
   nodes_full : length cd.nodes ≡ limit
-  nodes_full = ap length (nodes_held cd ns es answered.cd) ∙ length_padded (place Unringed) limit (map place ns)
+  nodes_full = ap length (nodes_held cd ns es held) ∙ length_padded (place Unringed) limit (map place ns)
 
   pairs_full : length cd.pairs ≡ pair_limit
-  pairs_full = ap length (pairs_held cd ns es answered.cd) ∙ length_triangle (between 1 es) limit
+  pairs_full = ap length (pairs_held cd ns es held) ∙ length_triangle (between 1 es) limit
 
   long : length (numbers_of cd) ≡ diagram_length
   long = omega (arith, numbers_long cd, nodes_full, pairs_full)
 
   is : of_reading reads.reading ≡ Shows (cd.count ∷ cd.edges ∷ pick reading.minimal 1 0 ∷ []) (numbers_of cd)
   unfolding outcome
-  is = ap of_reading answered.is
+  is = ap of_reading answered
 
   read_returned : c.returned ≡ 0
   read_returned = shown_returned reads.lends is (omega (arith, long))
@@ -92,15 +89,12 @@ module _ {wish : Bool} {text out : List ℕ} {ns : List Node} {es : List Stored}
 
   edges_shown_lem : edges_shown c ≡ edge_count cd
   edges_shown_lem =
-      let few : cd.count ≤ limit = omega (arith, count_held cd ns es answered.cd, accepted_few wish text ns es accepted) in
+      let few : cd.count ≤ limit = omega (arith, count_held cd ns es held, accepted_few wish text ns es accepted) in
       ap (λ z. pair_count (λ i j. ltb 0 (get_or c.out (2 * limit + 3 * place_of i j) 0)) (get_or z 1 0)) read_told
       ∙ pairs_local _ _ cd.count (λ i j l h. ap (ltb 0) (rank_shown i j l (omega arith)))
 
   mark_shown : get_or c.answer 3 0 ≡ pick reading.minimal 1 0
   mark_shown = ap (λ z. get_or z 3 0) read_told
-
-  reads_ok : Reads wish text (Ok reading)
-  reads_ok = subst (Reads wish text) answered.is reads.reads
 
 -- ---- what `lexicon_names` tells and shows
 
@@ -174,12 +168,12 @@ module _ (w z : Bool) (s t a a' b b' p p' q q' u v : List ℕ) (m n : ℕ) (file
   equal_articles read-s names-s read-t names-t ps lc rs ld qt le gt lf =
       let x = returned_0 files-s m-0 in
       let y = returned_0 files-t n-0 in
-      let same =
+      let (c, d, is-c, is-d, same) =
       theorem.equal_articles w z s t x.nodes y.nodes x.edges y.edges a a' b b' files-s.filed files-t.filed x.accepted y.accepted x.long y.long
-      files-s.files files-t.files equal (reads_ok read-s x.accepted ps lc) rs.names (reads_ok read-t y.accepted qt le) gt.names in
+      files-s.files files-t.files equal ps.reads rs.names qt.reads gt.names in
       record {
-        read = (read_returned read-s x.accepted ps lc, read_returned read-t y.accepted qt le);
-        mark = mark_shown read-s x.accepted ps lc ∙ ap (λ k. pick k 1 0) same.mark ∙ sym (mark_shown read-t y.accepted qt le);
-        edges = edges_shown_lem read-s x.accepted ps lc ∙ same.edges ∙ sym (edges_shown_lem read-t y.accepted qt le);
+        read = (read_returned read-s x.accepted ps lc is-c, read_returned read-t y.accepted qt le is-d);
+        mark = mark_shown read-s x.accepted ps lc is-c ∙ ap (λ k. pick k 1 0) same.mark ∙ sym (mark_shown read-t y.accepted qt le is-d);
+        edges = edges_shown_lem read-s x.accepted ps lc is-c ∙ same.edges ∙ sym (edges_shown_lem read-t y.accepted qt le is-d);
         names = names_alike names-s names-t rs gt ld lf same.names;
       }

@@ -85,9 +85,7 @@ module _ (w z : Bool) (s t a a' b b' p p' q q' u v : List ℕ) (m n : ℕ) (file
       → (f : ℕ → ℕ) × Carries (diagram drawn_s.nodes drawn_s.edges) (diagram drawn_t.nodes drawn_t.edges) f
       × ((i : ℕ) → i < length drawn_s.nodes → f (at p' i) ≡ at q' i)
   nodes_correspond same =
-      let is-s = (on_accepted files-s.files drawn_s.accepted drawn_s.long).is in
-      let is-t = (on_accepted files-t.files drawn_t.accepted drawn_t.long).is in
-      let (f, c, to) =
+      let (x, y, is-x, is-y, f, c, to) =
       lexicon.nodes_correspond w z s t drawn_s.nodes drawn_t.nodes drawn_s.edges drawn_t.edges a a' b b' files-s.filed files-t.filed drawn_s.accepted
-      drawn_t.accepted drawn_s.long drawn_t.long files-s.files files-t.files is-s is-t same in
-      (f, c, λ i h. subst₂ (λ y z. f (at y i) ≡ at z i) (sym (numbering_0 files-s is-s)) (sym (numbering_0 files-t is-t)) (to i h))
+      drawn_t.accepted drawn_s.long drawn_t.long files-s.files files-t.files same in
+      (f, c, λ i h. subst₂ (λ j k. f (at j i) ≡ at k i) (sym (numbering_0 files-s is-x)) (sym (numbering_0 files-t is-y)) (to i h))

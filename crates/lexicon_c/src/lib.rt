@@ -11,6 +11,7 @@ ghost use Rattle.lexicon_c.specs.Calls.{wished, ReadsForC, FilesForC, ReadsRecor
 
 use cd::{CdError, LIMIT};
 use lent::ANSWER;
+use reflections::Reflections;
 use shelf::Found;
 
 #[unsafe(no_mangle)]
@@ -35,11 +36,13 @@ pub extern "C" fn lexicon_write_record(
 ) -> usize
     ensures { FilesForC (wished wish) text.now out.old out.new numbering.old numbering.new answer.new result }
 {
-    let r = lexicon::write_record(text, wish != 0, out);
-    if let Ok(f) = &r {
-        numbering.copy_from_slice(&f.numbering);
+    match lexicon::write_record(text, wish != 0, out) {
+        Ok(f) => {
+            numbering.copy_from_slice(&f.numbering);
+            lent::tell([0, f.count, 0, 0], answer)
+        }
+        Err(e) => lent::tell_result(Err(e), answer),
     }
-    lent::tell(r.map(|f| (f.count, 0, 0)), answer)
 }
 
 #[unsafe(no_mangle)]
@@ -122,10 +125,14 @@ pub extern "C" fn lexicon_reflections(
 ) -> usize
     ensures { Lends (of_reflected (reflections_of_text (read (wished wish) text.now))) out.old out.new answer.new result }
 {
-    // (Not by geometry::reflections: a Result of reflections, which have 5,840 bytes each, is copied on the stack, of which this call then uses 24 KB in place of 18.)
+    // (Not by geometry::reflections, and filled in place: a Result of reflections, which have 5,840 bytes, is copied on the stack, and so are reflections by value.)
     match geometry::mirrors(text, wish != 0) {
-        Ok(m) => lent::show_one(&reflections::of(&m.at, m.count), out, answer),
-        Err(e) => lent::tell(Err(e), answer),
+        Ok(m) => {
+            let mut all = Reflections::new();
+            all.fill(&m.at, m.count);
+            lent::show_one(&all, out, answer)
+        }
+        Err(e) => lent::tell_result(Err(e), answer),
     }
 }
 
@@ -184,14 +191,14 @@ pub extern "C" fn lexicon_names(
 pub extern "C" fn lexicon_shelf_check(file: &[u8], answer: &mut [usize; ANSWER]) -> usize
     ensures { ChecksForC file.now answer.new result }
 {
-    lent::tell(shelf::check(file).map(|n| (n, 0, 0)), answer)
+    lent::tell_result(shelf::check(file).map(|n| (n, 0, 0)), answer)
 }
 
 // 1 and the record's place, or 0 and the place where it would stand.
 fn tell_found(r: Result<Found, CdError>, answer: &mut [usize; ANSWER]) -> usize
     ensures { Tells found_numbers r answer.new result }
 {
-    lent::tell(r.map(|f| (f.present as usize, f.place, 0)), answer)
+    lent::tell_result(r.map(|f| (f.present as usize, f.place, 0)), answer)
 }
 
 #[unsafe(no_mangle)]
@@ -226,7 +233,7 @@ pub extern "C" fn lexicon_shelf_add(
 ) -> usize
     ensures { AddsForC file.now bytes.now out.old out.new answer.new result }
 {
-    lent::tell(shelf::add(file, bytes, out).map(|p| (p, 0, 0)), answer)
+    lent::tell_result(shelf::add(file, bytes, out).map(|p| (p, 0, 0)), answer)
 }
 
 // Tells the places kept and the length of the tail.
@@ -239,7 +246,7 @@ pub extern "C" fn lexicon_shelf_rescue(
 ) -> usize
     ensures { RescuesForC file.now out.old marks.old out.new marks.new answer.new result }
 {
-    lent::tell(
+    lent::tell_result(
         shelf_rescue::rescue(file, out, marks).map(|s| (s.kept, s.tail, 0)),
         answer,
     )

@@ -1,5 +1,5 @@
 -- The digits that `io::decimal` writes, the fewest that hold the number, are those of `numeral`. Assumes nothing.
-use Prim.Native.Nat.{ℕ, zero, suc, ◌-◌, ◌/◌, ◌%◌, ◌^◌, ◌≤◌, ◌<◌}
+use Prim.Native.Nat.{ℕ, zero, suc, ◌-◌, ◌/◌, ◌%◌, ◌^◌, ◌≤◌, ◌<◌, min, max}
 use mathlib.Core.Path.{◌≡◌}
 use native.Mathlib.Nat.{mod-lt, mod-eq_of_lt, pow-suc, one-le-pow, pow-le-pow_right, le-div_iff_mul-le, div-lt_iff_lt-mul, zero-lt-suc, lt_of_not-le}
 use native.Mathlib.Numerals.{sub-one}
@@ -38,3 +38,11 @@ module _ (n r : ℕ) (h : n < 2 ^ 64) (f : IsDigitCount 10 1 n r) where
   pub numeral_digits : last_digits 10 r n ≡ numeral n
   unfolding numeral
   numeral_digits = digits_of 20 r n most_digits f
+
+-- a number that fits a width is written with just as many hexadecimal digits; every number that the kit writes fits 16
+pub padded_digits : (width n : ℕ) {k : ℕ} → 0 < width → width ≤ 16 → (width < 16 → n < 16 ^ width) → k ≤ 16 → IsDigitCount 16 (min (max width 1) 16) n k → k ≡ width
+padded_digits width n {k} pos small h most f =
+    let w : min (max width 1) 16 ≡ width = omega arith in
+    let g : IsDigitCount 16 width n k = rw w at f in
+    let no : suc width ≤ k → ⊥ = λ m. no_more 16 width width n k (zero-lt-suc 15) (omega arith) (h (omega arith)) g m in
+    omega (arith, lt_of_not-le no, g.0)

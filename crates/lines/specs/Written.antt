@@ -2,9 +2,13 @@
 use Rattle.std.specs.Prelude.{ℕ, ◌+◌, ◌≤◌, List}
 use Rattle.arrayvec.specs.ArrayVec.{ArrayVec, Extends, array_vec_len}
 
--- n more bytes may wait
+-- n more bytes may wait where `room` of them may in all
+abbrev pub HasRoomOf : ℕ → ℕ → ArrayVec ℕ → Type 0
+HasRoomOf room n out = array_vec_len out + n ≤ room
+
+-- n more bytes may wait among the programs' answers
 abbrev pub HasRoom : ℕ → ArrayVec ℕ → Type 0
-HasRoom n out = array_vec_len out + n ≤ 16384
+HasRoom n out = HasRoomOf 16384 n out
 
 -- half of that room is left, or more
 abbrev pub HasHalf : ArrayVec ℕ → Type 0

@@ -1,7 +1,7 @@
 // What the programs share: input and output that fail aloud, a text a line, and answers gathered in a buffer.
 #![tactic(auto)]
 
-ghost use Rattle.std.specs.Prelude.{◌+◌, ◌-◌, ◌*◌, ◌≤◌, [], ◌∷◌, ◌++◌, ◌≡◌, ◌==◌, leb, length, List, Bool, MatchResult};
+ghost use Rattle.std.specs.Prelude.{◌+◌, ◌-◌, ◌*◌, ◌≤◌, [], ◌∷◌, ◌++◌, ◌≡◌, ◌==◌, leb, length, List, Bool, MatchResult, OnOk};
 ghost use Rattle.arrayvec.specs.ArrayVec.{Extends, array_vec_len};
 ghost use Rattle.io.specs.Counts.{IsPrefixLen};
 ghost use Rattle.float.specs.Pick.{pick};
@@ -10,9 +10,9 @@ ghost use Rattle.cd.specs.Diagrams.{Stored, cd_of};
 ghost use Rattle.cd.specs.declared.Node.{Node};
 ghost use Rattle.parse.specs.Reading.{Accepted, Refused};
 ghost use Rattle.scan.specs.Ascii.{ascii};
-ghost use Rattle.std.specs.List.{position_or_len};
+ghost use Rattle.std.specs.List.{position_or_len, before_first, after_first};
 ghost use Rattle.lexicon.specs.Answers.{numeral, spaced, answer_of};
-ghost use Rattle.lines.specs.Written.{HasRoom, HasHalf, AddsAtMost};
+ghost use Rattle.lines.specs.Written.{HasRoomOf, HasHalf, AddsAtMost};
 ghost use Rattle.lines.specs.Arguments.{argument_of};
 
 use arrayvec::ArrayVec;
@@ -23,7 +23,7 @@ use std::io::Read;
 
 pub mod spelled; // spelled.rt: bytes that a line spells, and digests of bytes
 
-// Answers wait here, so that they are written many at a time.
+// The programs' answers wait here, so that they are written many at a time. (What adds to them takes any capacity.)
 pub type Answers = ArrayVec<u8, 16384>;
 
 // Says a line on standard error: the exit status stays 0.
@@ -112,14 +112,16 @@ pub fn until(s: &[u8], b: u8) -> usize
 
 // What stands before the first such byte, and what behind it; where there is none, all and nothing.
 pub fn split(s: &[u8], b: u8) -> (&[u8], &[u8])
-    ensures { length result.1.now ≤ length s.now - 1 }
+    ensures before { result.0.now ≡ before_first (λ x. x == b) s.now }
+    ensures behind { result.1.now ≡ after_first (λ x. x == b) s.now }
+    ensures shorter { length result.1.now ≤ length s.now - 1 }
 {
     let end = until(s, b);
     (&s[..end], s.get(end + 1..).unwrap_or(&[]))
 }
 
-// Writes the answers that wait once they take more than half their room, so that any further answer has room.
-pub fn flush_half(rt: &(impl Print + Eprint), out: &mut Answers)
+// Writes what waits once it takes more than half the room of `Answers`, so that any further answer has room there.
+pub fn flush_half<const N: usize>(rt: &(impl Print + Eprint), out: &mut ArrayVec<u8, N>)
     ensures kept { out.new.items ≡ pick (leb (array_vec_len out.old) 8192) out.old.items [] }
     ensures half { HasHalf out.new }
 {
@@ -151,8 +153,8 @@ pub fn answer_lines<F: FnMut(&[u8], &mut Answers)>(
     write_output(rt, &out);
 }
 
-pub fn put_all(out: &mut Answers, s: &[u8])
-    requires { HasRoom (length s.now) out.old }
+pub fn put_all<const N: usize>(out: &mut ArrayVec<u8, N>, s: &[u8])
+    requires { HasRoomOf N (length s.now) out.old }
     ensures added { Extends out.old s.now out.new }
     ensures len { array_vec_len out.new ≡ array_vec_len out.old + length s.now }
 {
@@ -161,8 +163,8 @@ pub fn put_all(out: &mut Answers, s: &[u8])
 
 // A number in decimal.
 #[tactic(auto, using(crate::proofs::Decimals::numeral_digits))]
-pub fn put_decimal(out: &mut Answers, n: u64)
-    requires { HasRoom 20 out.old }
+pub fn put_decimal<const N: usize>(out: &mut ArrayVec<u8, N>, n: u64)
+    requires { HasRoomOf N 20 out.old }
     ensures added { Extends out.old (numeral n) out.new }
     ensures bound { AddsAtMost 20 out.old out.new }
 {
@@ -172,8 +174,8 @@ pub fn put_decimal(out: &mut Answers, n: u64)
 }
 
 // A byte, and then the number in decimal.
-pub fn put_number(out: &mut Answers, mark: u8, n: u64)
-    requires { HasRoom 21 out.old }
+pub fn put_number<const N: usize>(out: &mut ArrayVec<u8, N>, mark: u8, n: u64)
+    requires { HasRoomOf N 21 out.old }
     ensures added { Extends out.old (mark ∷ numeral n) out.new }
     ensures bound { AddsAtMost 21 out.old out.new }
 {
@@ -183,8 +185,8 @@ pub fn put_number(out: &mut Answers, mark: u8, n: u64)
 
 // Each number after a space.
 #[tactic(auto, using(crate::proofs::Writing::adds_figure), unfolding(lexicon::specs::Answers::spaced))]
-pub fn put_numbers(out: &mut Answers, numbers: &[usize])
-    requires { HasRoom (21 * length numbers.now) out.old }
+pub fn put_numbers<const N: usize>(out: &mut ArrayVec<u8, N>, numbers: &[usize])
+    requires { HasRoomOf N (21 * length numbers.now) out.old }
     ensures added { Extends out.old (spaced numbers.now) out.new }
     ensures bound { AddsAtMost (21 * length numbers.now) out.old out.new }
 {
@@ -195,10 +197,10 @@ pub fn put_numbers(out: &mut Answers, numbers: &[usize])
 
 // `ok` and numbers.
 #[tactic(auto, using(crate::proofs::Writing::adds_then), unfolding(scan::specs::Ascii::ascii))]
-fn put_ok(out: &mut Answers, numbers: &[usize])
-    requires { (length numbers.now ≤ 4) × HasRoom 86 out.old }
+fn put_ok<const N: usize>(out: &mut ArrayVec<u8, N>, numbers: &[usize])
+    requires { (length numbers.now ≤ 4) × HasRoomOf N 86 out.old }
     ensures added { Extends out.old (ascii "ok" ++ spaced numbers.now) out.new }
-    ensures bound { AddsAtMost 86 out.old out.new }
+    ensures bound { AddsAtMost (2 + 21 * length numbers.now) out.old out.new }
 {
     put_all(out, b"ok");
     put_numbers(out, numbers);
@@ -206,8 +208,8 @@ fn put_ok(out: &mut Answers, numbers: &[usize])
 
 // `no`, the refusal's number and its fields.
 #[tactic(auto, using(crate::proofs::Writing::adds_then), unfolding(scan::specs::Ascii::ascii))]
-fn put_no(out: &mut Answers, e: CdError)
-    requires { HasRoom 86 out.old }
+fn put_no<const N: usize>(out: &mut ArrayVec<u8, N>, e: CdError)
+    requires { HasRoomOf N 86 out.old }
     ensures added { Extends out.old (ascii "no" ++ spaced (number_of e)) out.new }
     ensures bound { AddsAtMost 86 out.old out.new }
 {
@@ -217,9 +219,13 @@ fn put_no(out: &mut Answers, e: CdError)
 }
 
 // Numbers that were answered, or what was refused.
-pub fn put_outcome<const N: usize>(out: &mut Answers, r: Result<[usize; N], CdError>)
-    requires { (N ≤ 4) × HasRoom 86 out.old }
-    ensures { AddsAtMost 86 out.old out.new }
+pub fn put_outcome<const N: usize, const K: usize>(
+    out: &mut ArrayVec<u8, N>,
+    r: Result<[usize; K], CdError>,
+)
+    requires { (K ≤ 4) × HasRoomOf N 86 out.old }
+    ensures ok { OnOk r.entry (AddsAtMost (2 + 21 * K) out.old out.new) }
+    ensures bound { AddsAtMost 86 out.old out.new }
 {
     match r {
         Ok(numbers) => put_ok(out, &numbers),
@@ -229,8 +235,8 @@ pub fn put_outcome<const N: usize>(out: &mut Answers, r: Result<[usize; N], CdEr
 
 // `ok`, nodes, stored edges, minimal 1 or 0; or `no`, number, fields.
 #[tactic(auto, unfolding(lexicon::specs::Answers::answer_of, cd::specs::Diagrams::cd_of))]
-pub fn put_answer(out: &mut Answers, r: Result<Reading, CdError>)
-    requires { HasRoom 86 out.old }
+pub fn put_answer<const N: usize>(out: &mut ArrayVec<u8, N>, r: Result<Reading, CdError>)
+    requires { HasRoomOf N 86 out.old }
     ensures added { MatchResult r (λ r. (ns : List Node) (es : List Stored) → r.cd ≡ cd_of ns es → Extends out.old (answer_of (Accepted ns es) r.minimal) out.new) (λ e. (m : Bool) → Extends out.old (answer_of (Refused e) m) out.new) }
     ensures bound { AddsAtMost 86 out.old out.new }
 {

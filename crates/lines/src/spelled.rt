@@ -1,10 +1,11 @@
 // What the replay programs share: numbers and bytes that a line spells, and answers that show bytes by a digest and doubles by their bits.
-ghost use Rattle.std.specs.Prelude.{◌*◌, ◌≤◌, ◌<◌, ◌^◌, length, max};
-ghost use Rattle.lines.specs.Written.{HasRoom, AddsAtMost};
+ghost use Rattle.std.specs.Prelude.{◌≡◌, ◌≤◌, ◌<◌, ◌^◌, length, max, false, is_nan, to_bits};
+ghost use Rattle.std.specs.Float.{binary64};
+ghost use Rattle.arrayvec.specs.ArrayVec.{Extends};
+ghost use Rattle.io.specs.Digits.{last_digits};
+ghost use Rattle.lines.specs.Written.{HasRoomOf, AddsAtMost};
 
-use crate::Answers;
-
-const DIGITS: [u8; 16] = *b"0123456789abcdef";
+use arrayvec::ArrayVec;
 
 // A digit's value; 0 for another byte, and for a digit that the base has not.
 pub fn digit(b: u8, base: usize) -> usize
@@ -60,33 +61,35 @@ fn digest(bytes: &[u8]) -> u32 {
     h as u32
 }
 
-// Two hexadecimal digits a byte.
-fn put_hex(out: &mut Answers, bytes: &[u8])
-    requires { HasRoom (2 * length bytes.now) out.old }
-    ensures { AddsAtMost (2 * length bytes.now) out.old out.new }
+// The number in so many hexadecimal digits.
+fn put_hex<const N: usize>(out: &mut ArrayVec<u8, N>, n: u64, width: usize)
+    requires fits { (0 < width) × (width ≤ 16) × (width < 16 → n < 16 ^ width) }
+    requires room { HasRoomOf N width out.old }
+    ensures added { Extends out.old (last_digits 16 width n) out.new }
+    ensures bound { AddsAtMost width out.old out.new }
 {
-    for b in bytes {
-        out.push(DIGITS[(*b / 16) as usize]);
-        out.push(DIGITS[(*b % 16) as usize]);
-    }
+    let mut digits = [0u8; 16];
+    let k = io::hex(n, width, &mut digits);
+    crate::put_all(out, &digits[..k]);
 }
 
 // A space and the digest.
-pub fn put_digest(out: &mut Answers, bytes: &[u8])
-    requires { HasRoom 9 out.old }
+pub fn put_digest<const N: usize>(out: &mut ArrayVec<u8, N>, bytes: &[u8])
+    requires { HasRoomOf N 9 out.old }
     ensures { AddsAtMost 9 out.old out.new }
 {
     out.push(b' ');
-    put_hex(out, &digest(bytes).to_be_bytes());
+    put_hex(out, u64::from(digest(bytes)), 8);
 }
 
 // A double's bits, or `nan`.
-pub fn put_double(out: &mut Answers, v: f64)
-    requires { HasRoom 16 out.old }
-    ensures { AddsAtMost 16 out.old out.new }
+pub fn put_double<const N: usize>(out: &mut ArrayVec<u8, N>, v: f64)
+    requires { HasRoomOf N 16 out.old }
+    ensures bits { is_nan v ≡ false → Extends out.old (last_digits 16 16 (to_bits binary64 v)) out.new }
+    ensures bound { AddsAtMost 16 out.old out.new }
 {
     if v.is_nan() {
         return crate::put_all(out, b"nan");
     }
-    put_hex(out, &v.to_bits().to_be_bytes());
+    put_hex(out, v.to_bits(), 16);
 }

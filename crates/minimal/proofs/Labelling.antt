@@ -2,15 +2,16 @@
 -- a node of each component that had either. Once every row is met a step keeps the label, so a path does. So there is a labelling, whatever code makes one. No limit
 -- of nodes stands here. Assumes nothing.
 use Prim.Native.Nat.{ℕ, zero, suc, ◌+◌, ◌≤◌, ◌<◌}
+use mathlib.Core.List.{List, [], ◌∷◌}
 use mathlib.Core.Path.{◌≡◌, refl, sym, ap, ◌∙◌, subst}
 use native.Mathlib.Decide.{dec_lt, ℕ_discrete}
-use native.Mathlib.Nat.{le_refl, not-suc-le-zero}
+use native.Mathlib.Nat.{le_refl, not-suc-le-zero, le_of_suc-le-suc}
 use native.Mathlib.Numerals.{add-one}
 use native.Mathlib.Omega.{arith}
 use borrow.Author.Count.{below_more}
 use borrow.Author.Tests.{eq-eqb, ne_eqb}
 use Rattle.cd.specs.Paths.{Path, here, on, Labelled}
-use Rattle.minimal.specs.Labels.{instead, Partway}
+use Rattle.minimal.specs.Labels.{label_in, instead, Partway}
 use Rattle.minimal.proofs.Paths.{path_join, path_back}
 
 -- ---- one label in the place of another
@@ -61,6 +62,17 @@ module _ (E : ℕ → ℕ → Type 0) (n j i : ℕ) (f : ℕ → ℕ) (at : Part
         met_relabelled (f i) (f j) g is less path (instead_yes (f i) (f j) (f i) refl ∙ sym kept)
 
 -- ---- the first pair, the end of a row, and the end
+
+-- n numbers, from m on
+unfoldable pub up_from : ℕ → ℕ → List ℕ
+up_from m zero = []
+up_from m (suc n) = m ∷ up_from (suc m) n
+
+pub label_up_from : (m n k : ℕ) → k < n → label_in (up_from m n) k ≡ m + k
+unfolding up_from
+label_up_from m zero k h = absurd (not-suc-le-zero h)
+label_up_from m (suc n) zero h = omega arith
+label_up_from m (suc n) (suc k) h = omega (arith, label_up_from (suc m) n k (le_of_suc-le-suc h))
 
 module _ (E : ℕ → ℕ → Type 0) (n : ℕ) (f : ℕ → ℕ) where
   -- before the first pair each node has a label of its own

@@ -14,8 +14,7 @@ use Rattle.filing.proofs.Layouts.{layout_local}
 use Rattle.filing.proofs.Searching.{at_plain, plain_front}
 use Rattle.parse.specs.Reading.{Accepted, Refused}
 use Rattle.search.specs.Search.{Smallest}
-use Rattle.tables.specs.Tables.{Holds, table_layout}
-use Rattle.tables.specs.declared.entries.Tables.{Tables}
+use Rattle.tables.specs.Tables.{Entries, Holds, table_layout}
 use Rattle.tables.proofs.TableLayouts.{table_layout_lem}
 use Rattle.readback.specs.ReadBack.{ReadBack, record_of}
 use Rattle.readback.specs.ReadBack as read_back
@@ -23,7 +22,7 @@ use Rattle.readback.specs.Spelled.{nodes_in, edges_in}
 use Rattle.readback.proofs.SpelledLaws.{read_back, spelled_is_diagram}
 use Rattle.readback.proofs.ReadBackLaws.{laid_out_back}
 
-module _ (N : ℕ) (l : List ℕ) (w : IsDiagram N (spelled N l)) (t : Tables) (held : Holds N t (read_back N l)) where
+module _ (N : ℕ) (l : List ℕ) (w : IsDiagram N (spelled N l)) (t : Entries) (held : Holds N t (read_back N l)) where
   abbrev laid : (ℕ → ℕ) → List ℕ
   laid p = table_layout N t p
 

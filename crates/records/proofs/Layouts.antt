@@ -10,13 +10,12 @@ use Rattle.filing.specs.Numberings.{at}
 use Rattle.filing.specs.Records.{node_length, nodes_length, pairs_length, record_length}
 use Rattle.filing.proofs.Bytes.{length_bytes, length_blocks, length_filled, length_written, written_block}
 use Rattle.filing.proofs.Layouts.{one_row_more, pairs_length_mono}
-use Rattle.tables.specs.declared.entries.Tables.{Tables}
-use Rattle.tables.specs.Tables.{table_node, table_nodes, table_row, table_pairs, table_layout}
+use Rattle.tables.specs.Tables.{Entries, table_node, table_nodes, table_row, table_pairs, table_layout}
 use Rattle.records.proofs.Parts.{byte_then, block_then, parts_written}
 
 -- ---- nodes
 
-module _ (t : Tables) (p : ℕ → ℕ) where
+module _ (t : Entries) (p : ℕ → ℕ) where
   length_node_lem : (i : ℕ) → length (table_node t (p i)) ≡ node_length
   unfolding table_node
   length_node_lem i = refl
@@ -36,7 +35,7 @@ module _ (t : Tables) (p : ℕ → ℕ) where
 
 -- ---- pairs
 
-module _ (N : ℕ) (t : Tables) (p : ℕ → ℕ) where
+module _ (N : ℕ) (t : Entries) (p : ℕ → ℕ) where
   -- the pair of places i and j
   abbrev pub pair_of : ℕ → ℕ → List ℕ
   pair_of j i = bytes 8 (at t.pairs (N * p i + p j))
@@ -75,7 +74,7 @@ module _ (N : ℕ) (t : Tables) (p : ℕ → ℕ) where
 
 -- ---- the whole
 
-module _ (N : ℕ) (t : Tables) (p : ℕ → ℕ) (h : t.count ≤ N) where
+module _ (N : ℕ) (t : Entries) (p : ℕ → ℕ) (h : t.count ≤ N) where
   abbrev n : ℕ
   n = t.count
 

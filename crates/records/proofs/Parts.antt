@@ -2,13 +2,14 @@
 use mathlib.Core.List.{List, [], ◌∷◌, ◌++◌, append_assoc}
 use mathlib.Core.Path.{◌≡◌, refl, sym, ap, ◌∙◌}
 use Prim.Native.Nat.{ℕ, suc, ◌+◌, ◌-◌, ◌*◌, ◌/◌, ◌≤◌, ◌<◌}
+use native.Mathlib.Numerals.{add-one}
 use native.Mathlib.Omega.{arith}
-use lib.ListN.{length, take, drop, set, replicate, length-replicate, replicate-append-replicate}
-use lib.Seq.{take_at, drop_at, drop-drop}
+use lib.ListN.{length, get_or, take, drop, set, replicate, length-replicate, replicate-append-replicate}
+use lib.Seq.{length-take-le, take_at, take-suc, drop_at, drop-drop}
 use mir.Syntax.{w64}
 use Rattle.std.specs.Int.{to_be_bytes}
 use Rattle.filing.specs.Bytes.{bytes, blocks, filled, written}
-use Rattle.filing.proofs.Bytes.{length_blocks, length_filled, written_front, written_byte, written_then, written_block}
+use Rattle.filing.proofs.Bytes.{length_blocks, length_filled, length_written, written_front, written_byte, written_then, written_block}
 
 -- ---- a number
 
@@ -28,6 +29,16 @@ byte_then k b x l h = rw (written_byte k b l h) (written_then k (b ∷ []) x l (
 pub block_then : (k w : ℕ) (g : ℕ → List ℕ) (i : ℕ) (l : List ℕ) → ((j : ℕ) → j < i → length (g j) ≡ w) → k + w * i ≤ length l
     → written (k + w * i) (g i) (written k (blocks g i) l) ≡ written k (blocks g (i + 1)) l
 block_then k w g i l e h = let f = length_blocks g w i e in rw f at (written_block k g i l (rw f h))
+
+-- one byte more of a list
+pub put_more : (at : ℕ) (from l : List ℕ) (i : ℕ) → at + length from ≤ length l → i < length from
+    → set (written at (take i from) l) (at + i) (get_or from i 0) ≡ written at (take (i + 1) from) l
+put_more at from l i h k =
+    let e : length (take i from) ≡ i = length-take-le i from (omega arith) in
+    let f = length_written at (take i from) l (omega arith) in
+    written_byte (at + i) (get_or from i 0) (written at (take i from) l) (omega arith)
+    ∙ rw e at (written_then at (take i from) (get_or from i 0 ∷ []) l (omega arith))
+    ∙ ap (λ z. written at z l) (sym (take-suc from i 0 k) ∙ ap (λ n. take n from) (sym (add-one i)))
 
 -- ---- zeros written over
 

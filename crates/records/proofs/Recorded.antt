@@ -17,12 +17,11 @@ use Rattle.filing.proofs.Layouts.{length_layout, layout_local}
 use Rattle.filing.proofs.Numberings.{numbering_same}
 use Rattle.filing.proofs.Sequences.{at_most_trans}
 use Rattle.search.specs.Search.{Smallest, Foremost}
-use Rattle.tables.specs.Tables.{Holds, table_layout}
-use Rattle.tables.specs.declared.entries.Tables.{Tables}
+use Rattle.tables.specs.Tables.{Entries, Holds, table_layout}
 use Rattle.tables.proofs.TableLayouts.{table_layout_lem}
 use Rattle.records.specs.Written.{Written}
 
-module _ (N : ℕ) (t : Tables) (d : Diagram) (held : Holds N t d) (is : IsDiagram N d) (p : List ℕ) (found : Smallest N t p) (foremost : Foremost N t p) where
+module _ (N : ℕ) (t : Entries) (d : Diagram) (held : Holds N t d) (is : IsDiagram N d) (p : List ℕ) (found : Smallest N t p) (foremost : Foremost N t p) where
   abbrev laid : (ℕ → ℕ) → List ℕ
   laid q = table_layout N t q
 

@@ -1,7 +1,7 @@
 // The filing record: the layout of a diagram under the numbering that makes it smallest, written into a lent buffer.
 #![tactic(auto)]
 
-ghost use Rattle.std.specs.Prelude.{List, ◌∷◌, ◌++◌, ◌≡◌, ◌+◌, ◌*◌, ◌-◌, ◌≤◌, ◌<◌, length, drop, replicate};
+ghost use Rattle.std.specs.Prelude.{List, ◌∷◌, ◌++◌, ◌≡◌, ◌+◌, ◌*◌, ◌-◌, ◌≤◌, ◌<◌, length, take, drop, replicate};
 ghost use Rattle.cd.specs.Diagrams.{Stored, limit, cd_of};
 ghost use Rattle.cd.specs.Minimal.{Decides};
 ghost use Rattle.cd.specs.declared.Node.{Node};
@@ -9,7 +9,7 @@ ghost use Rattle.filing.specs.Bytes.{◌≼◌, bytes, written};
 ghost use Rattle.filing.specs.Numberings.{Numbering, at};
 ghost use Rattle.filing.specs.Records.{nodes_length, record_length};
 ghost use Rattle.tables.specs.Diagrams.{diagram};
-ghost use Rattle.tables.specs.Tables.{Numbers, IsKept, table_nodes, table_row, table_pairs, table_layout};
+ghost use Rattle.tables.specs.Tables.{Numbers, IsKept, entries, table_nodes, table_row, table_pairs, table_layout};
 ghost use Rattle.records.specs.Written.{Written};
 
 use cd::{Cd, LIMIT};
@@ -22,12 +22,14 @@ pub const NODE: usize = 9;
 
 pub const PAIRS_AT: usize = 82;
 
-// Stores bytes from `at` on.
+// Stores bytes from `at` on. (By a loop, since `copy_from_slice` would have the archive for C ask for memmove.)
 pub fn put(out: &mut [u8], at: usize, from: &[u8])
     requires { at + length from.now ≤ length out.old }
     ensures { out.new ≡ written at from.now out.old }
 {
-    out[at..at + from.len()].copy_from_slice(from);
+    for i in 0..from.len() {
+        out[at + i] = from[i];
+    }
 }
 
 // A number in eight bytes, the highest first.
@@ -50,7 +52,7 @@ fn put_count(out: &mut [u8], n: usize)
 // The nodes, each at its place under the numbering.
 fn put_nodes(out: &mut [u8], t: &Tables, p: &[usize; LIMIT])
     requires { Numbering t.now.count (at p.now) × (record_length limit ≤ length out.old) }
-    ensures { out.new ≡ written 1 (table_nodes t.now (at p.now) t.now.count) out.old }
+    ensures { out.new ≡ written 1 (table_nodes (entries t.now) (at p.now) t.now.count) out.old }
 {
     for i in 0..t.count {
         let k = 1 + NODE * i;
@@ -62,7 +64,7 @@ fn put_nodes(out: &mut [u8], t: &Tables, p: &[usize; LIMIT])
 // The pairs of place j with the places before it, at k.
 fn put_row(out: &mut [u8], k: usize, t: &Tables, p: &[usize; LIMIT], j: usize)
     requires { (j < t.now.count) × Numbering t.now.count (at p.now) × (k + 8 * j ≤ length out.old) }
-    ensures { out.new ≡ written k (table_row limit t.now (at p.now) j) out.old }
+    ensures { out.new ≡ written k (table_row limit (entries t.now) (at p.now) j) out.old }
 {
     for i in 0..j {
         put_number(out, k + 8 * i, t.pair(p[i], p[j]));
@@ -72,7 +74,7 @@ fn put_row(out: &mut [u8], k: usize, t: &Tables, p: &[usize; LIMIT], j: usize)
 // The pairs, row by row.
 fn put_pairs(out: &mut [u8], t: &Tables, p: &[usize; LIMIT])
     requires { Numbering t.now.count (at p.now) × (record_length limit ≤ length out.old) }
-    ensures { out.new ≡ written (1 + nodes_length limit) (table_pairs limit t.now (at p.now) t.now.count) out.old }
+    ensures { out.new ≡ written (1 + nodes_length limit) (table_pairs limit (entries t.now) (at p.now) t.now.count) out.old }
 {
     let mut k = PAIRS_AT;
     for j in 0..t.count {
@@ -84,7 +86,7 @@ fn put_pairs(out: &mut [u8], t: &Tables, p: &[usize; LIMIT])
 // The layout under a numbering.
 fn lay(out: &mut [u8], t: &Tables, p: &[usize; LIMIT])
     requires { Numbering t.now.count (at p.now) × (record_length limit ≤ length out.old) }
-    ensures { out.new ≡ table_layout limit t.now (at p.now) ++ drop (record_length limit) out.old }
+    ensures { out.new ≡ table_layout limit (entries t.now) (at p.now) ++ drop (record_length limit) out.old }
 {
     put_count(out, t.count);
     put_nodes(out, t, p);
@@ -105,10 +107,19 @@ pub fn no_greater(a: &[u8], b: &[u8]) -> bool
     a <= b
 }
 
+// The bytes at place i of records that stand end to end.
+pub fn place(file: &[u8], i: usize) -> &[u8]
+    requires { record_length limit * (i + 1) ≤ length file.now }
+    ensures { result.now ≡ take (record_length limit) (drop (record_length limit * i) file.now) }
+{
+    let at = RECORD * i;
+    &file[at..at + RECORD]
+}
+
 // Whether bytes are the layout under a numbering.
 pub fn is_layout(s: &[u8], t: &Tables, p: [usize; LIMIT]) -> bool
     requires { Numbering t.now.count (at p) }
-    ensures { Decides (s.now ≡ table_layout limit t.now (at p)) result }
+    ensures { Decides (s.now ≡ table_layout limit (entries t.now) (at p)) result }
 {
     let mut out = [0; RECORD];
     lay(&mut out, t, &p);

@@ -2,7 +2,8 @@
 // each double by its bits. oracle/cox.py has the kinds of lines.
 #![tactic(auto)]
 
-ghost use Rattle.std.specs.Prelude.{◌<◌, ◌≤◌, length};
+ghost use Rattle.std.specs.Prelude.{◌*◌, ◌≤◌, length};
+ghost use Rattle.arrayvec.specs.ArrayVec.{array_vec_len};
 ghost use Rattle.lines.specs.Written.{HasRoom, HasHalf, AddsAtMost};
 
 use cd::{CdError, LIMIT, SQUARE};
@@ -13,8 +14,8 @@ use reflections::Reflections;
 
 // Each value after a space.
 fn put_values(out: &mut Answers, values: &[f64])
-    requires { (length values.now ≤ 9) × HasRoom 153 out.old }
-    ensures { AddsAtMost 153 out.old out.new }
+    requires { HasRoom (17 * length values.now) out.old }
+    ensures { AddsAtMost (17 * length values.now) out.old out.new }
 {
     for v in values {
         out.push(b' ');
@@ -46,8 +47,8 @@ fn put_square(out: &mut Answers, r: Result<Square, CdError>)
 
 // The coordinates and the circumradius.
 fn put_generated(out: &mut Answers, r: Result<Generator, CdError>)
-    requires { HasRoom 392 out.old }
-    ensures { AddsAtMost 392 out.old out.new }
+    requires { HasRoom 256 out.old }
+    ensures { AddsAtMost 256 out.old out.new }
 {
     lines::put_outcome(out, r.map(|g| [g.count]));
     if let Ok(g) = r {
@@ -94,6 +95,7 @@ fn named(s: &[u8]) -> (u8, usize) {
 // A line without a kind, or of none of these, has an empty answer.
 fn line(rt: &(impl Print + Eprint), s: &[u8], out: &mut Answers)
     requires { HasHalf out.old }
+    ensures { array_vec_len out.new ≤ 9656 }
 {
     if let [kind, _, text @ ..] = s {
         let (letter, size) = named(text);

@@ -134,6 +134,7 @@ fn written(text: &[u8], digits: &[u8], out: &mut Answers)
 
 fn line(s: &[u8], out: &mut Answers)
     requires { HasRoom 148 out.old }
+    ensures { AddsAtMost 148 out.old out.new }
 {
     let (text, rest) = lines::split(s, b'|');
     match rest {

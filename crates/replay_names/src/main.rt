@@ -47,7 +47,8 @@ fn put_groups(out: &mut Answers, groups: &Groups)
 
 // `ok` and how many components there are, then each; or `no` and the figures.
 fn line(text: &[u8], out: &mut Answers)
-    requires { HasRoom (67 * limit + 87) out.old }
+    requires { HasRoom (67 * limit + 24) out.old }
+    ensures { AddsAtMost (67 * limit + 24) out.old out.new }
 {
     let r = lexicon_names::names(text, true);
     lines::put_outcome(out, r.map(|groups| [groups.count]));

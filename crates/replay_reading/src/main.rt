@@ -2,6 +2,8 @@
 // the order stored.
 #![tactic(auto)]
 
+ghost use Rattle.std.specs.Prelude.{◌≡◌, ◌<◌, ◌≤◌, slice_get, Some, IfSome};
+ghost use Rattle.cd.specs.Diagrams.{limit, place_of};
 ghost use Rattle.lines.specs.Written.{HasRoom, AddsAtMost};
 
 use cd::{Cd, Edge, LIMIT, Node, PAIRS};
@@ -36,7 +38,11 @@ fn put_nodes(out: &mut Answers, cd: &Cd)
 }
 
 // The edge that was stored as the rank-th, behind the nodes that it joins, the smaller first.
-fn stored(cd: &Cd, rank: u32) -> Option<(usize, usize, Edge)> {
+fn stored(cd: &Cd, rank: u32) -> Option<(usize, usize, Edge)>
+    ensures ordered { IfSome result (λ x. x.0 ≤ x.1) }
+    ensures node { IfSome result (λ x. x.1 < limit) }
+    ensures there { IfSome result (λ x. slice_get cd.now.pairs (place_of x.0 x.1) ≡ Some (record { rank = rank; edge = x.2 })) }
+{
     for b in 0..LIMIT {
         for a in 0..=b {
             let pair = cd.pairs[cd::pair_place(a, b)];
@@ -72,6 +78,7 @@ fn put_edges(out: &mut Answers, cd: &Cd)
 
 fn line(text: &[u8], out: &mut Answers)
     requires { HasRoom 4029 out.old }
+    ensures { AddsAtMost 4029 out.old out.new }
 {
     let r = lexicon::read(text, true);
     lines::put_answer(out, r);

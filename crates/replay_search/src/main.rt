@@ -1,7 +1,7 @@
 // Reads as `cdlist` does, and answers each text with how many numberings the search for its record carries to the end, or `no`.
 #![tactic(auto)]
 
-ghost use Rattle.lines.specs.Written.{HasRoom};
+ghost use Rattle.lines.specs.Written.{HasRoom, AddsAtMost};
 
 use cd::CdError;
 use lines::Answers;
@@ -14,6 +14,7 @@ fn count(text: &[u8]) -> Result<u64, CdError> {
 
 fn line(text: &[u8], out: &mut Answers)
     requires { HasRoom 21 out.old }
+    ensures { AddsAtMost 21 out.old out.new }
 {
     match count(text) {
         Ok(n) => lines::put_decimal(out, n),

@@ -45,6 +45,7 @@ fn spell_places(s: &[u8], bytes: &mut [u8]) -> usize
 // SPELLED or SPELLED#LLL, in a buffer of zeros: the bytes that are meant.
 fn spell<'a>(s: &[u8], bytes: &'a mut [u8]) -> &'a [u8]
     requires { 4096 ≡ length bytes.old }
+    ensures { length result.now ≤ 4096 }
 {
     let (places, digits) = lines::split(s, b'#');
     let n = spell_places(places, bytes);
@@ -116,6 +117,7 @@ fn rescue(s: &[u8], out: &mut Answers)
 // A line without `>` and `|` has an empty answer.
 fn line(s: &[u8], out: &mut Answers)
     requires { HasRoom 357 out.old }
+    ensures { AddsAtMost 357 out.old out.new }
 {
     if s.contains(&b'>') {
         rescue(s, out);

@@ -107,9 +107,13 @@ module _ (s : List ℕ) (i : ℕ) (before : Option ℕ) (p : Part) where
   unfolding run by_sort
   run_at_other h t = rw (drop_at s i h, t)
 
-  pub run_at_end : i ≡ length s → Err (UnexpectedEnding (length s)) ≡ run (drop i s) i before p
+  pub run_at_end : length s ≤ i → Err (UnexpectedEnding i) ≡ run (drop i s) i before p
   unfolding run
-  run_at_end e = let h : length s ≤ i = omega arith in rw (drop_of_length-le s h, e)
+  run_at_end h = rw (drop_of_length-le s h)
+
+  pub run_at_length : i ≡ length s → Err (UnexpectedEnding (length s)) ≡ run (drop i s) i before p
+  unfolding run
+  run_at_length e = let h : length s ≤ i = omega arith in rw (drop_of_length-le s h, e)
 
 -- ---- an optional edge at a position, the first byte from there on that is no space being at i
 
@@ -134,6 +138,6 @@ module _ (s : List ℕ) (at i : ℕ) (skipped : i ≡ skip (drop at s) at) where
 
 -- ---- what the functions' proofs use
 
-pub ruleset run_laws = (digit_of_sort, open_value, run_at_digit, run_at_slash, run_at_terminator, run_at_slash_refused, run_at_terminator_refused, run_at_other, run_at_end)
+pub ruleset run_laws = (digit_of_sort, open_value, run_at_digit, run_at_slash, run_at_terminator, run_at_slash_refused, run_at_terminator_refused, run_at_other, run_at_length)
 
 pub ruleset edge_laws = (edge_read, edge_refused, no_edge_at_other, no_edge_at_end)

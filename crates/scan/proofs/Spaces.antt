@@ -2,7 +2,7 @@
 use Prim.Native.Nat.{ℕ, ◌+◌, ◌≤◌, ◌<◌}
 use mathlib.Core.Bool.{Bool, true, false}
 use mathlib.Core.List.{List, [], ◌∷◌}
-use mathlib.Core.Path.{◌≡◌}
+use mathlib.Core.Path.{◌≡◌, sym, ◌∙◌}
 use native.Mathlib.Omega.{arith}
 use lib.ListN.{length, get_or, drop, drop_of_length-le}
 use Rattle.float.specs.Pick.{pick}
@@ -18,9 +18,12 @@ pub skip_at_other : (s : List ℕ) (i : ℕ) → i < length s → is_space (get_
 unfolding skip
 skip_at_other s i h e = rw (drop_at s i h, e)
 
-pub skip_at_end : (s : List ℕ) (i : ℕ) → i ≡ length s → length s ≡ skip (drop i s) i
+pub skip_at_end : (s : List ℕ) (i : ℕ) → length s ≤ i → i ≡ skip (drop i s) i
 unfolding skip
-skip_at_end s i e = let h : length s ≤ i = omega arith in rw (drop_of_length-le s h, e)
+skip_at_end s i h = rw (drop_of_length-le s h)
+
+pub skip_at_length : (s : List ℕ) (i : ℕ) → i ≡ length s → length s ≡ skip (drop i s) i
+skip_at_length s i e = sym e ∙ skip_at_end s i (omega arith)
 
 -- from i on, and not past the end
 pub skip_bounds : (bs : List ℕ) (i : ℕ) → (i ≤ skip bs i) × (skip bs i ≤ i + length bs)
@@ -32,4 +35,4 @@ skip_bounds (b ∷ bs) i = first (is_space b) (skip bs (i + 1)) (skip_bounds bs 
     first true k h = omega arith
     first false k h = omega arith
 
-pub ruleset skip_laws = (skip_at_space, skip_at_other, skip_at_end)
+pub ruleset skip_laws = (skip_at_space, skip_at_other, skip_at_length)

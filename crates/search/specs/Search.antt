@@ -5,27 +5,26 @@ use Rattle.std.specs.declared.cmp.Ordering.TheVariants.{Less, Equal, Greater}
 use Rattle.filing.specs.Bytes.{◌≼◌}
 use Rattle.filing.specs.Groups.{group_factorials}
 use Rattle.filing.specs.Numberings.{Numbering, at, plain}
-use Rattle.tables.specs.Tables.{table_layout, node_at}
-use Rattle.tables.specs.declared.entries.Tables.{Tables}
+use Rattle.tables.specs.Tables.{Entries, table_layout, node_at}
 use Rattle.blocks.specs.Blocks.{base, block, Keyed}
 use Rattle.groups.specs.Groups.{Grouped, Within, ways}
 use Rattle.filing.specs.Sequences.{Agree, Before, AtMost}
 use Rattle.blocks.specs.Ranks.{table}
 
 -- r numbers the nodes, no numbering lays out less, and past the nodes it is the plain one
-pub record Smallest (N : ℕ) (t : Tables) (r : List ℕ) : Type 0 where
+pub record Smallest (N : ℕ) (t : Entries) (r : List ℕ) : Type 0 where
   pub numbering : Numbering t.count (at r)
   pub least : (q : ℕ → ℕ) → Numbering t.count q → table_layout N t (at r) ≼ table_layout N t q
   pub spare : drop t.count r ≡ drop t.count (plain N)
 
 -- ticket K9: "Of all numberings that give the record, return the first, comparing the list of old nodes in new order as numbers from the left."
-pub record Foremost (N : ℕ) (t : Tables) (r : List ℕ) : Type 0 where
+pub record Foremost (N : ℕ) (t : Entries) (r : List ℕ) : Type 0 where
   pub room : length r ≡ N
   pub first : (q : ℕ → ℕ) → Numbering t.count q → table_layout N t q ≡ table_layout N t (at r)
       → AtMost t.count (at r) q
 
 -- "It is proved to lie between 1 and the product of the groups' factorials"
-pub record Counted (t : Tables) (count : ℕ) : Type 0 where
+pub record Counted (t : Entries) (count : ℕ) : Type 0 where
   pub some : 1 ≤ count
   pub most : count ≤ group_factorials (node_at t) t.count
 

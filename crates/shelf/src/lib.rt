@@ -1,4 +1,4 @@
-// Shelf files: the filing records of many articles in one file, each greater in byte order than the one before. No call but `place` has a `requires`; none touches a disk.
+// Shelf files: the filing records of many articles in one file, each greater in byte order than the one before. No call has a `requires`; none touches a disk.
 #![tactic(auto)]
 
 ghost use Rattle.std.specs.Prelude.{◌++◌, ◌≡◌, ◌+◌, ◌*◌, ◌≤◌, length, take, drop, MatchResult};
@@ -11,10 +11,10 @@ ghost use Rattle.shelf.specs.Adds.{added_length, Adds};
 ghost use Rattle.shelf.specs.Bisects.{Bisection, Bisects};
 ghost use Rattle.shelf.specs.Checks.{NoMultiple, Checks};
 ghost use Rattle.shelf.specs.Finds.{Finds};
-ghost use Rattle.shelf.specs.Shelves.{place_at, Greater, Right, Present};
+ghost use Rattle.shelf.specs.Shelves.{Greater, Right, Present};
 
 use cd::CdError;
-use records::RECORD;
+use records::{RECORD, place};
 
 // How many places a file has.
 fn place_count(file: &[u8]) -> Result<usize, CdError>
@@ -26,18 +26,10 @@ fn place_count(file: &[u8]) -> Result<usize, CdError>
     Ok(file.len() / RECORD)
 }
 
-// The bytes at place i.
-pub fn place(file: &[u8], i: usize) -> &[u8]
-    requires { record_length limit * (i + 1) ≤ length file.now }
-    ensures { result.now ≡ place_at (record_length limit) file.now i }
-{
-    let at = RECORD * i;
-    &file[at..at + RECORD]
-}
-
 // ---- the check
 
 // Whether place i is greater than the place before it.
+#[tactic(auto, unfolding(crate::specs::Shelves::place_at))]
 fn rises(file: &[u8], i: usize) -> bool
     requires { record_length limit * (i + 1) ≤ length file.now }
     ensures { Decides (Greater limit file.now i) result }
@@ -53,6 +45,7 @@ fn is_readable(s: &[u8]) -> bool
 }
 
 // Whether place i can be read and is greater than the place before it.
+#[tactic(auto, unfolding(crate::specs::Shelves::place_at))]
 fn is_right(file: &[u8], i: usize) -> bool
     requires { record_length limit * (i + 1) ≤ length file.now }
     ensures { Decides (Right limit file.now i) result }
@@ -101,6 +94,7 @@ fn place_for(file: &[u8], n: usize, x: &[u8]) -> usize
 }
 
 // Whether x is at place p of n places.
+#[tactic(auto, unfolding(crate::specs::Shelves::place_at))]
 fn is_at(file: &[u8], n: usize, x: &[u8], p: usize) -> bool
     requires { record_length limit * n ≤ length file.now }
     ensures { Decides (Present limit file.now n x.now p) result }

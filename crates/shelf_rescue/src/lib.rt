@@ -35,7 +35,7 @@ pub fn rescue(file: &[u8], out: &mut [u8], marks: &mut [u8]) -> Result<Rescued, 
     let mut kept = 0;
     let mut last: &[u8] = &file[..0];
     for i in 0..n {
-        let x = shelf::place(file, i);
+        let x = records::place(file, i);
         let m = mark(x, last);
         marks[i] = m;
         if m == 0 {

@@ -1,5 +1,6 @@
 -- What tables made of a Cd hold of its diagram. The first stored edge that joins two nodes is what both `between` and `joint` tell, by induction on the
--- stored edges; an edge's den is above 0, and so only a pair that nothing joins counts as 2/1. Assumes nothing.
+-- stored edges; an edge's den is above 0, and so only a pair that nothing joins counts as 2/1. That the entries fit their bytes, tables carry with them.
+-- Assumes nothing.
 use Prim.Native.Nat.{ℕ, ◌+◌, ◌*◌, ◌<◌}
 use mathlib.Core.Bool.{Bool, true, false}
 use mathlib.Core.List.{List, [], ◌∷◌}
@@ -21,7 +22,7 @@ use Rattle.cd.proofs.Stored.{loaded, count_held, node_held, pairs_held}
 use Rattle.filing.specs.Fractions.{Fraction}
 use Rattle.filing.specs.Numberings.{at}
 use Rattle.tables.specs.Diagrams.{filed, two, joint, diagram}
-use Rattle.tables.specs.Tables.{IsKept, spelt, number, pair_number, PairTable, Holds}
+use Rattle.tables.specs.Tables.{IsKept, spelt, number, pair_number, PairTable, Entries, entries, Fits, Holds}
 use Rattle.tables.specs.declared.entries.Tables.{Tables}
 
 -- ---- the number of a pair's place
@@ -44,6 +45,11 @@ unfolding between joint
 number_between k [] i j h = number_of_nothing none refl
 number_between k (s ∷ es) i j h = number_picked (joins i j s) k s.edge (between (k + 1) es i j) (joint es i j) (number_between (k + 1) es i j) h
 
+-- ---- the entries of tables
+
+pub entries_fit : (t : Tables) → Fits (entries t)
+entries_fit t = record { kinds = t.kinds_fit; bits = t.bits_fit; pairs = t.pairs_fit }
+
 -- ---- the tables of a Cd
 
 module _ (cd : Cd) (ns : List Node) (es : List Stored) (held : cd ≡ cd_of ns es) where
@@ -62,7 +68,7 @@ module _ (cd : Cd) (ns : List Node) (es : List Stored) (held : cd ≡ cd_of ns e
   abbrev NodeTable : (Place → ℕ) → List ℕ → Type 0
   NodeTable f xs = (i : ℕ) → i < limit → at xs i ≡ f (get_or cd.nodes i (place Unringed))
 
-  pub tables_hold : (t : Tables) → t.count ≡ cd.count → NodeTable (λ p. (filed p.node).kind) t.kinds → NodeTable (λ p. (filed p.node).bits) t.bits → PairTable limit cd.count cd.pairs t.pairs → IsKept limit (diagram ns es) → Holds limit t (diagram ns es)
+  pub tables_hold : (t : Entries) → t.count ≡ cd.count → NodeTable (λ p. (filed p.node).kind) t.kinds → NodeTable (λ p. (filed p.node).bits) t.bits → PairTable limit cd.count cd.pairs t.pairs → IsKept limit (diagram ns es) → Holds limit t (diagram ns es)
   unfolding diagram
   tables_hold t n ks bs ps d = record {
     count = n ∙ count_held cd ns es held;

@@ -5,7 +5,7 @@ ghost use Rattle.std.specs.Prelude.{List, ◌≡◌, ◌≤◌};
 ghost use Rattle.cd.specs.Diagrams.{Stored, limit, cd_of};
 ghost use Rattle.cd.specs.declared.Node.{Node as ANode};
 ghost use Rattle.tables.specs.Diagrams.{filed, diagram};
-ghost use Rattle.tables.specs.Tables.{IsNumber, Numbers, IsKept, pair_number, PairTable, Holds};
+ghost use Rattle.tables.specs.Tables.{IsNumber, Numbers, IsKept, pair_number, PairTable, entries, Holds};
 
 use cd::{Cd, LIMIT, Node, Pair, SQUARE};
 pub use entries::{Tables, pair_at};
@@ -64,7 +64,7 @@ pub fn pairs_of(cd: Cd) -> [u64; SQUARE]
 // Edges are in lowest terms: nothing is divided here.
 pub fn of(cd: Cd) -> Tables
     requires { Numbers cd.nodes × (cd.count ≤ limit) }
-    ensures { (result.count ≡ cd.count) × ((ns : List ANode) (es : List Stored) → cd ≡ cd_of ns es → IsKept limit (diagram ns es) → Holds limit result (diagram ns es)) }
+    ensures { (result.count ≡ cd.count) × ((ns : List ANode) (es : List Stored) → cd ≡ cd_of ns es → IsKept limit (diagram ns es) → Holds limit (entries result) (diagram ns es)) }
 {
     Tables {
         count: cd.count,

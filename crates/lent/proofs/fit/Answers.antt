@@ -4,7 +4,7 @@ use Rattle.lent.proofs.Showing.{fit_short, fit_shown}
 use Rattle.lent.proofs.fit.Goals as goal
 
 pub returns-then-out-length : goal.returns-then-out-length
-returns-then-out-length g c = fit_short _ _ _ (omega (arith, c.length.ensures, c.if-out-length.true))
+returns-then-out-length g c = λ fs t. fit_short _ _ _ (omega (arith, c.length.ensures, c.if-out-length.true))
 
 pub returns : goal.returns
-returns g c = fit_shown _ _ _ _ _ _ _ (omega (arith, c.length.ensures, c.if-out-length.false)) c.put.ensures c.told.ensures
+returns g c = λ fs t. fit_shown _ _ _ _ _ _ _ (omega (arith, c.length.ensures, c.if-out-length.false)) c.put.ensures t

@@ -6,18 +6,18 @@ use Rattle.lent.proofs.Showing.{lends_same, lends_shown, lends_refusal}
 use Rattle.lexicon_c.proofs.Entries.{reflections_long}
 use Rattle.lexicon_c.proofs.lexicon_reflections.Goals as goal
 
-pub of-requires : goal.of-requires
-of-requires c = mirrored_few _ _ _ (mirrored _ _ c.in-Ok.ensures)
+pub fill-requires : goal.fill-requires
+fill-requires c = (mirrored_few _ _ _ (mirrored _ _ c.in-Ok.ensures), c.new-all.ensures.1)
 
 pub show_one-requires : goal.show_one-requires
 show_one-requires c =
     let m = mirrored _ _ c.in-Ok.ensures in
-    reflections_long _ _ (reflections_shown _ _ _ m (c.of.ensures m.fits.square m.fits.held))
+    reflections_long _ _ (reflections_shown _ _ _ m (c.fill.ensures m.fits.square m.fits.held))
 
 pub returns-in-Ok : goal.returns-in-Ok
 returns-in-Ok c =
     let m = mirrored _ _ c.in-Ok.ensures in
-    lends_same of_reflected (reflections_shown _ _ _ m (c.of.ensures m.fits.square m.fits.held)) (lends_shown _ _ _ _ _ c.show_one.ensures)
+    lends_same of_reflected (reflections_shown _ _ _ m (c.fill.ensures m.fits.square m.fits.held)) (lends_shown _ _ _ _ _ c.show_one.ensures)
 
 pub returns-in-Err : goal.returns-in-Err
-returns-in-Err c = lends_same of_reflected (reflections_refused _ _ c.in-Err.ensures) (lends_refusal _ _ _ _ c.tell.ensures)
+returns-in-Err c = lends_same of_reflected (reflections_refused _ _ c.in-Err.ensures) (lends_refusal _ _ _ _ c.tell_result.ensures)

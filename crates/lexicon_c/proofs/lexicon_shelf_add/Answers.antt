@@ -6,4 +6,4 @@ use Rattle.lexicon_c.proofs.lexicon_shelf_add.Goals as goal
 
 pub returns : goal.returns
 unfolding padded
-returns c = record { added = c.add.result; adds = c.add.ensures; tells = tells_mapped _ _ _ c.map.ensures.cases (λ x y p. search rules) c.tell.ensures }
+returns c = record { added = c.add.result; adds = c.add.ensures; tells = tells_mapped _ _ _ c.map.ensures.cases (λ x y p. search rules) c.tell_result.ensures }

@@ -6,4 +6,4 @@ use Rattle.lexicon_c.proofs.lexicon_shelf_check.Goals as goal
 
 pub returns : goal.returns
 unfolding padded
-returns c = record { checked = c.check.result; checks = c.check.ensures; tells = tells_mapped _ _ _ c.map.ensures.cases (λ n y p. search rules) c.tell.ensures }
+returns c = record { checked = c.check.result; checks = c.check.ensures; tells = tells_mapped _ _ _ c.map.ensures.cases (λ n y p. search rules) c.tell_result.ensures }

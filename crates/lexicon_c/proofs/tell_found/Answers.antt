@@ -7,4 +7,4 @@ use Rattle.lexicon_c.proofs.tell_found.Goals as goal
 
 pub returns : goal.returns
 unfolding padded
-returns c = tells_mapped _ _ _ c.map.ensures.cases (λ f y p. let q = flag f.present in search rules) c.tell.ensures
+returns c = tells_mapped _ _ _ c.map.ensures.cases (λ f y p. let q = flag f.present in search rules) c.tell_result.ensures

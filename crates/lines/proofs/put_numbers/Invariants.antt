@@ -6,7 +6,7 @@ use Rattle.lines.specs.Written.{AddsAtMost}
 use Rattle.lines.proofs.put_numbers.Given as goal
 
 abbrev pub invariant-loop-n : goal.invariant-loop-n
-invariant-loop-n l = record {
+invariant-loop-n g l = record {
   added : Extends l.initial.out (spaced (take l.n-index l.numbers)) l.out;
   bound : AddsAtMost (21 * l.n-index) l.initial.out l.out;
 }

@@ -12,7 +12,7 @@ use Rattle.filing.specs.Readable.{spelled}
 use Rattle.filing.specs.Records.{record_length}
 use Rattle.parse.specs.Reading.{Reading, answer}
 use Rattle.tables.specs.Diagrams.{diagram}
-use Rattle.tables.specs.Tables.{IsKept, Holds, table_layout}
+use Rattle.tables.specs.Tables.{IsKept, entries, Holds, table_layout}
 use Rattle.tables.proofs.TableLayouts.{numbers_held}
 use Rattle.readback.specs.ReadBack.{ReadBack, wrong_length, no_diagram}
 use Rattle.readback.proofs.ReadBackLaws.{laid_out_kept}
@@ -48,7 +48,7 @@ of-t-requires c =
 kept : (o : After-of-t) → IsKept limit (spelled limit o.in-Ok.bytes.now)
 kept o = o.if-not-is_spelled.ensures.only_when refl
 
-holds : (o : After-of-t) → Holds limit o.of-t.result (read_back limit o.in-Ok.bytes.now)
+holds : (o : After-of-t) → Holds limit (entries o.of-t.result) (read_back limit o.in-Ok.bytes.now)
 holds o = o.of-t.ensures.1 _ _ o.spelled-cd.ensures (spelled_is_kept limit _ (kept o))
 
 pub is_layout-requires : goal.is_layout-requires
@@ -64,7 +64,7 @@ returns-then-not-is_layout c =
     (_, read_from o (no_diagram (long o) (not_laid limit _ (kept d).is _ (holds d) (λ e. refutes c.if-not-is_layout.ensures refl (rw c.plain.ensures e)))), refl)
 
 -- the bytes are the layout as it stands
-laid : (c : Else-not-is_layout) → c.in-Ok.bytes.now ≡ table_layout limit c.of-t.result (at (plain limit))
+laid : (c : Else-not-is_layout) → c.in-Ok.bytes.now ≡ table_layout limit (entries c.of-t.result) (at (plain limit))
 laid c = rw c.plain.ensures at (c.if-not-is_layout.ensures.only_when refl)
 
 pub returns-then-not-is_smallest : goal.returns-then-not-is_smallest

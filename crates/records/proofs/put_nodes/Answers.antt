@@ -4,7 +4,7 @@ use native.Mathlib.Omega.{arith}
 use Rattle.filing.specs.Bytes.{blocks}
 use Rattle.filing.specs.Numberings.{at}
 use Rattle.filing.proofs.Bytes.{written_nil}
-use Rattle.tables.specs.Tables.{table_nodes}
+use Rattle.tables.specs.Tables.{entries, table_nodes}
 use Rattle.records.proofs.Layouts.{node_then}
 use Rattle.records.proofs.put_nodes.Goals as goal
 
@@ -13,4 +13,4 @@ unfolding table_nodes blocks
 loop-i-init c = sym (written_nil 1 _)
 
 pub loop-i-preserved : goal.loop-i-preserved
-loop-i-preserved c = let a = c.args in cc (node_then a.t.now (at a.p.now) c.loop-i.i a.out.now (omega (arith, a.t.now.few)))
+loop-i-preserved c = let a = c.args in cc (node_then (entries a.t.now) (at a.p.now) c.loop-i.i a.out.now (omega (arith, a.t.now.few)))

@@ -6,10 +6,10 @@ use Rattle.cd.specs.Diagrams.{limit}
 use Rattle.filing.specs.Bytes.{written}
 use Rattle.filing.specs.Numberings.{at}
 use Rattle.filing.specs.Records.{nodes_length}
-use Rattle.tables.specs.Tables.{table_pairs}
+use Rattle.tables.specs.Tables.{entries, table_pairs}
 use Rattle.records.proofs.put_pairs.Given as goal
 
 abbrev pub invariant-loop-j : goal.invariant-loop-j
 invariant-loop-j l =
-    (l.k ≡ 1 + nodes_length limit + length (table_pairs limit l.t (at l.p) l.j))
-    × (l.out ≡ written (1 + nodes_length limit) (table_pairs limit l.t (at l.p) l.j) l.initial.out)
+    (l.k ≡ 1 + nodes_length limit + length (table_pairs limit (entries l.t) (at l.p) l.j))
+    × (l.out ≡ written (1 + nodes_length limit) (table_pairs limit (entries l.t) (at l.p) l.j) l.initial.out)

@@ -5,7 +5,7 @@ use Rattle.cd.specs.Diagrams.{limit}
 use Rattle.filing.specs.Bytes.{blocks}
 use Rattle.filing.specs.Numberings.{at}
 use Rattle.filing.proofs.Bytes.{written_nil}
-use Rattle.tables.specs.Tables.{table_row}
+use Rattle.tables.specs.Tables.{entries, table_row}
 use Rattle.records.proofs.Layouts.{pair_then}
 use Rattle.records.proofs.put_row.Goals as goal
 
@@ -14,7 +14,7 @@ unfolding blocks
 loop-i-init c = sym (written_nil _ _)
 
 pub loop-i-preserved : goal.loop-i-preserved
-loop-i-preserved c = let a = c.args in cc (pair_then limit a.t.now (at a.p.now) a.j a.k c.loop-i.i a.out.now (omega arith))
+loop-i-preserved c = let a = c.args in cc (pair_then limit (entries a.t.now) (at a.p.now) a.j a.k c.loop-i.i a.out.now (omega arith))
 
 pub returns : goal.returns
 unfolding table_row

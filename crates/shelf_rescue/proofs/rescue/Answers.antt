@@ -7,6 +7,7 @@ use native.Mathlib.Omega.{arith}
 use lib.ListN.{length}
 use Rattle.cd.specs.Diagrams.{limit}
 use Rattle.filing.specs.Records.{record_length}
+use Rattle.shelf.specs.Shelves.{place_at}
 use Rattle.shelf.proofs.Places.{place_length}
 use Rattle.shelf_rescue.specs.Rescues.{Cut, short}
 use Rattle.shelf_rescue.proofs.Saving.{saved_none, saved_copied, saved_passed, saved_all}
@@ -23,11 +24,13 @@ pub loop-i-init : goal.loop-i-init
 loop-i-init c = (omega arith, saved_none limit _ _ _)
 
 pub put-requires : goal.put-requires
+unfolding place_at
 put-requires c =
     let e = place_length (record_length limit) c.args.file.now c.loop-i.i (omega arith) in
     rw c.place-x.ensures (omega arith)
 
 pub loop-i-preserved : goal.loop-i-preserved
+unfolding place_at
 loop-i-preserved c =
     let i = c.loop-i.invariant in
     elim c.if-m-eq0.branch [

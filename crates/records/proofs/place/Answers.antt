@@ -1,15 +1,13 @@
--- `shelf::place` meets its contract.
+-- `records::place` meets its contract.
 use mathlib.Core.Path.{◌≡◌, ap}
 use Prim.Native.Nat.{◌+◌, ◌-◌, ◌*◌}
 use native.Mathlib.Omega.{arith}
 use lib.ListN.{take, drop}
 use Rattle.cd.specs.Diagrams.{limit}
 use Rattle.filing.specs.Records.{record_length}
-use Rattle.shelf.specs.Shelves.{place_at}
-use Rattle.shelf.proofs.place.Goals as goal
+use Rattle.records.proofs.place.Goals as goal
 
 pub returns : goal.returns
-unfolding place_at
 returns c =
     let at = record_length limit * c.args.i in
     let e : at + record_length limit - at ≡ record_length limit = omega arith in
