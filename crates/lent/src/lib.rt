@@ -389,7 +389,7 @@ pub fn show<T: Told>(
 {
     let f = match r {
         Ok(x) => x.told(),
-        Err(_) => (0, 0, 0),
+        Err(_) => (0, 0, 0), // a refusal tells its own numbers, and these are not looked at
     };
     show_as(r, f, out, answer)
 }

@@ -1,11 +1,11 @@
 // The `gens` of `gen_iter`: for each mirror the reflection in it.
 #![tactic(auto)]
 
-ghost use Rattle.std.specs.Prelude.{◌≡◌, ℕ, ◌<◌, ◌≤◌, Float};
+ghost use Rattle.std.specs.Prelude.{◌≡◌, ◌<◌, ◌≤◌};
 ghost use Rattle.cd.specs.Diagrams.{limit};
 ghost use Rattle.reflections.specs.Reflections.{unit as the_unit, reflection as the_reflection};
 ghost use Rattle.reflections.specs.Shown.{blank, reflections_of};
-ghost use Rattle.cox.specs.Squares.{Square, flat, flat_square, dot as the_dot};
+ghost use Rattle.cox.specs.Squares.{Square, flat_square};
 
 use cd::{LIMIT, SQUARE};
 
@@ -28,25 +28,14 @@ fn unit(c: usize, r: usize) -> f64
     if r == c { 1.0 } else { 0.0 }
 }
 
-// The sum for the unit column c and a mirror. (No array of unit columns: filled at each call, it cost a text of few nodes more than the rest.)
-fn unit_dot(c: usize, mirror: &[f64]) -> f64
-    ensures { (f : ℕ → Float) (k : ℕ) → mirror.now ≡ flat k f → result ≡ the_dot (the_unit c) f k }
-{
-    let mut sum = 0.0;
-    for r in 0..mirror.len() {
-        sum += unit(c, r) * mirror[r];
-    }
-    sum
-}
-
-// The reflection in the mirror i of n.
-fn reflection(m: &[f64; SQUARE], i: usize, n: usize) -> [f64; SQUARE]
+// The reflection in the mirror i of n, by the unit columns.
+fn reflection(units: &[f64; SQUARE], m: &[f64; SQUARE], i: usize, n: usize) -> [f64; SQUARE]
     requires { (i < limit) × (n ≤ limit) }
-    ensures { (f : Square) → m.now ≡ flat_square limit f → result ≡ flat_square limit (the_reflection (f i) n) }
+    ensures { (f : Square) → units.now ≡ flat_square limit the_unit → m.now ≡ flat_square limit f → result ≡ flat_square limit (the_reflection (f i) n) }
 {
     let mirror = cox::column(m, i, n);
     let square = cox::dot(mirror, mirror);
-    let factor = |c| 2.0 * unit_dot(c, mirror) / square;
+    let factor = |c| 2.0 * cox::dot(cox::column(units, c, n), mirror) / square;
     let factors: [f64; LIMIT] = std::array::from_fn(factor);
     cox::square(|c, r| unit(c, r) - m[LIMIT * i + r] * factors[c])
 }
@@ -62,14 +51,15 @@ impl Reflections {
         }
     }
 
-    // Those in n mirrors. (In place: made by value they were filled or copied once more, which took as long as all the rest for a text of few nodes.)
+    // Those in n mirrors. (In place: made by value they were copied once more, and the call for C took 18,280 bytes of stack.)
     pub fn fill(&mut self, m: &[f64; SQUARE], n: usize)
         requires { (n ≤ limit) × (self.old.of ≡ blank) }
         ensures { (f : Square) → m.now ≡ flat_square limit f → self.new ≡ reflections_of n f }
     {
+        let units = cox::square(unit);
         self.count = n;
         for i in 0..n {
-            self.of[i].at = reflection(m, i, n);
+            self.of[i].at = reflection(&units, m, i, n);
         }
     }
 }

@@ -13,7 +13,7 @@ use Rattle.reflections.proofs.reflection.Goals as goal
 
 pub returns : goal.returns
 unfolding reflection
-returns c f w =
+returns c f e w =
     let i = c.args.i in
     let n = c.args.n in
     let factors = c.from_fn-factors.result in
